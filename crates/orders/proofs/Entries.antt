@@ -1,0 +1,54 @@
+-- What the tests of an entry tell. Assumes nothing.
+use mathlib.Core.Path.{_≡_, refl, sym}
+use mathlib.Core.Bool.{Bool, true, false}
+use mathlib.Core.List.{List}
+use Prim.Native.Nat.{ℕ, _+_, _^_, _<_, _≤_}
+use native.Mathlib.Decide.{ℕ-discrete}
+use native.Mathlib.Omega.{arith}
+use lib.IntN.{ℤ, pos, negsuc}
+use lib.ListN.{length, getD}
+use lib.Signed.{ltZ, leZ, mag}
+use mir.Syntax.{Width, w16}
+use mir.Val.{SFits, ofZ, toZ, hbits}
+use mir.Facts.{toZ-ofZ}
+use Rattle.theory.specs.Table.{absent, Present, Order, Entries}
+use Rattle.theory.proofs.Signed.{signed}
+use Rattle.orders.specs.Tested.{Tells}
+
+-- a statement that holds is told by `true`, one that fails by `false`
+pub tells-yes : {P : Type 0} → P → Tells true P
+tells-yes p = record { holds = λ e. p; fails = λ e q. absurd (let z : _≡_ {A = ℕ} 0 1 = cc in omega arith) }
+
+pub tells-no : {P : Type 0} → (P → ⊥) → Tells false P
+tells-no f = record { holds = λ e. absurd (let z : _≡_ {A = ℕ} 0 1 = cc in omega arith); fails = λ e. f }
+
+-- the bits of −32768 are those of no other number of 16 bits
+pub absent-bits : (v : ℤ) → SFits w16 v → ofZ w16 v ≡ 32768 → v ≡ absent
+absent-bits (pos n) f e = absurd (omega (arith, f .sfits))
+absent-bits (negsuc n) f e = let m : n ≡ 32767 = omega (arith, f .sfits) in rw m
+
+pub present-bits : (v : ℤ) → (ofZ w16 v ≡ 32768 → ⊥) → Present v
+present-bits v ne e = ne (rw e refl)
+
+-- what a signed number of memory reads back as
+pub back : (w : Width) (z : ℤ) → mag z < 2 ^ hbits w → toZ w (ofZ w z) ≡ z
+back w z h = toZ-ofZ (record { sfits = h })
+
+-- the three ways through the test of one entry
+pub entry-absent : (limit : ℕ) (v : ℤ) → SFits w16 v → ofZ w16 v ≡ 32768 → Tells true (Present v → Order limit v)
+entry-absent limit v f e = tells-yes (λ p. absurd (p (absent-bits v f e)))
+
+pub entry-low : (v : ℤ) → (ofZ w16 v ≡ 32768 → ⊥) → ltZ v (negsuc 99) ≡ true → Tells false (Present v → Order 100 v)
+entry-low v ne t = tells-no (λ all. let o = all (present-bits v ne) in omega (arith, signed, o .low))
+
+pub entry-high : (v : ℤ) → (ofZ w16 v ≡ 32768 → ⊥) → ltZ v (negsuc 99) ≡ false → Tells (leZ v (pos 100)) (Present v → Order 100 v)
+entry-high v ne t =
+    record {
+      holds = λ e p. record { low = omega (arith, signed); high = omega (arith, signed) };
+      fails = λ e all. let o = all (present-bits v ne) in omega (arith, signed, o .high);
+    }
+
+-- one more entry that stands
+pub entries-more : (limit : ℕ) (t : List ℤ) (i : ℕ) → ((k : ℕ) → k < i → Present (getD t k (pos 0)) → Order limit (getD t k (pos 0)))
+    → (Present (getD t i (pos 0)) → Order limit (getD t i (pos 0))) → (k : ℕ) → k < i + 1 → Present (getD t k (pos 0)) → Order limit (getD t k (pos 0))
+entries-more limit t i below this k h = elim (ℕ-discrete k i) [ yes e ↦ rw e this | no ne ↦ below k (omega arith) ]

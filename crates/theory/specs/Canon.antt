@@ -1,0 +1,104 @@
+-- Document 01's "Definitions taken from Jacobi", for a table with n rows and n columns whose entry in row i and column j is
+-- `a i j`. Additions are natural numbers, one for each row; orders, heads and sums are signed. Only rows and columns below n count.
+use mathlib.Core.Path.{_≡_}
+use Prim.Native.Nat.{ℕ, _+_, _≤_, _<_}
+use lib.IntN.{ℤ, pos, _+ℤ_, _-ℤ_}
+use lib.Signed.{_≤ℤ_}
+use Rattle.theory.specs.Totals.{total, totalℕ}
+use Rattle.theory.specs.Table.{Present}
+
+module _ (n : ℕ) (a : ℕ → ℕ → ℤ) where
+  -- "A complete transversal takes one present order from each row, no two in one column." Row i's order is in column σ i.
+  pub record Transversal (σ : ℕ → ℕ) : Type 0 where
+    pub inside : (i : ℕ) → i < n → σ i < n
+    pub present : (i : ℕ) → i < n → Present (a i (σ i))
+    pub apart : (i k : ℕ) → i < n → k < n → σ i ≡ σ k → i ≡ k
+
+  -- "each present order of row i is raised by l of row i"
+  abbrev pub raised : (ℕ → ℕ) → ℕ → ℕ → ℤ
+  raised l i j = a i j +ℤ pos (l i)
+
+  -- "A column maximum is a present raised order that no present raised order of its column exceeds; ties all count."
+  pub record Maximum (l : ℕ → ℕ) (i j : ℕ) : Type 0 where
+    pub present : Present (a i j)
+    pub unexceeded : (k : ℕ) → k < n → Present (a k j) → raised l k j ≤ℤ raised l i j
+
+  -- a "complete transversal [that] consists of column maxima"
+  pub record OfMaxima (l σ : ℕ → ℕ) : Type 0 where
+    pub transversal : Transversal σ
+    pub maximum : (i : ℕ) → i < n → Maximum l i (σ i)
+
+  -- "Additions l (one per row, zero or more) are a canon when, after each present order of row i is raised by l of row i, some
+  -- complete transversal consists of column maxima."
+  pub record Canon (l : ℕ → ℕ) : Type 0 where
+    pub columns : ℕ → ℕ
+    pub of-maxima : OfMaxima l columns
+
+  -- l is at least `start` in every row
+  abbrev pub AtLeast : (ℕ → ℕ) → (ℕ → ℕ) → Type 0
+  AtLeast start l = (i : ℕ) → i < n → start i ≤ l i
+
+  -- the least canon from a start: "the canon whose every addition is at most that of every other canon in the same row", among
+  -- the canons that are nowhere below the start
+  pub record LeastFrom (start l : ℕ → ℕ) : Type 0 where
+    pub canon : Canon l
+    pub from-start : AtLeast start l
+    pub least : (m : ℕ → ℕ) → Canon m → AtLeast start m → AtLeast l m
+
+  -- "The simplest canon": the least from zeros
+  abbrev pub Simplest : (ℕ → ℕ) → Type 0
+  Simplest l = LeastFrom (λ i. 0) l
+
+  -- "A column's head is the largest raised order in it."
+  pub record Head (l : ℕ → ℕ) (j : ℕ) (h : ℤ) : Type 0 where
+    pub row : ℕ
+    pub inside : row < n
+    pub maximum : Maximum l row j
+    pub is : h ≡ raised l row j
+
+  -- h is column by column the head
+  abbrev pub Heads : (ℕ → ℕ) → (ℕ → ℤ) → Type 0
+  Heads l h = (j : ℕ) → j < n → Head l j (h j)
+
+  -- σ comes before τ "when its columns are written for row 1, row 2 and so on, and compared from the left"
+  pub record Before (σ τ : ℕ → ℕ) : Type 0 where
+    pub row : ℕ
+    pub inside : row < n
+    pub same : (i : ℕ) → i < row → σ i ≡ τ i
+    pub smaller : σ row < τ row
+
+  -- "The stars are the complete transversal of column maxima that comes first": none of them comes before it
+  pub record Stars (l σ : ℕ → ℕ) : Type 0 where
+    pub of-maxima : OfMaxima l σ
+    pub first : (τ : ℕ → ℕ) → OfMaxima l τ → Before τ σ → ⊥
+
+  -- "The sum is the total of the starred orders as they stand in the table, before raising."
+  abbrev pub sum : (ℕ → ℕ) → ℤ
+  sum σ = total n (λ i. a i (σ i))
+
+  -- "The index figure is the largest addition."
+  pub record Index (l : ℕ → ℕ) (x : ℕ) : Type 0 where
+    pub row : ℕ
+    pub inside : row < n
+    pub is : x ≡ l row
+    pub largest : (i : ℕ) → i < n → l i ≤ x
+
+  -- "a transversal of greatest sum"
+  pub record Greatest (σ : ℕ → ℕ) : Type 0 where
+    pub transversal : Transversal σ
+    pub greatest : (τ : ℕ → ℕ) → Transversal τ → sum τ ≤ℤ sum σ
+
+  -- the whole answer of a route: additions, stars, heads and sum
+  pub record Solution (start l σ : ℕ → ℕ) (h : ℕ → ℤ) (s : ℤ) : Type 0 where
+    pub additions : LeastFrom start l
+    pub stars : Stars l σ
+    pub heads : Heads l h
+    pub is-sum : s ≡ sum σ
+
+  -- demand 3: "the sum is the column maxima less the additions, no complete transversal has a greater one, and one reaches it
+  -- exactly when each of its orders, with its row's addition, is its column's maximum"
+  pub record Balance (l : ℕ → ℕ) (h : ℕ → ℤ) (s : ℤ) : Type 0 where
+    pub heads-less-additions : s ≡ total n h -ℤ pos (totalℕ n l)
+    pub none-greater : (τ : ℕ → ℕ) → Transversal τ → sum τ ≤ℤ s
+    pub reached : (τ : ℕ → ℕ) → Transversal τ → sum τ ≡ s → (i : ℕ) → i < n → Maximum l i (τ i)
+    pub reaches : (τ : ℕ → ℕ) → Transversal τ → ((i : ℕ) → i < n → Maximum l i (τ i)) → sum τ ≡ s

@@ -1,0 +1,5 @@
+-- What the customer must believe, each word of document 01 once.
+pub mod Limits
+pub mod Totals
+pub mod Table
+pub mod Canon

@@ -1,0 +1,14 @@
+-- Totals over the numbers below n. Rows and columns are counted from 0 in all definitions and proofs, and from 1 in what is
+-- lent, read and printed.
+use Prim.Native.Nat.{ℕ, zero, suc, _+_}
+use lib.IntN.{ℤ, pos, _+ℤ_}
+
+-- f 0 + .. + f (n − 1), of natural numbers
+unfoldable pub totalℕ : ℕ → (ℕ → ℕ) → ℕ
+totalℕ zero f = 0
+totalℕ (suc n) f = totalℕ n f + f n
+
+-- f 0 + .. + f (n − 1), of signed numbers
+unfoldable pub total : ℕ → (ℕ → ℤ) → ℤ
+total zero f = pos 0
+total (suc n) f = total n f +ℤ f n

@@ -7,7 +7,7 @@ use native.Mathlib.Decide.{ℕ-discrete}
 use native.Mathlib.Omega.{arith}
 use lib.IntN.{ℤ, pos, negsuc}
 use lib.ListN.{length, getD}
-use lib.Signed.{ltZ, leZ, mag}
+use lib.Signed.{_≤ℤ_, ltZ, leZ, mag}
 use mir.Syntax.{Width, w16}
 use mir.Val.{SFits, ofZ, toZ, hbits}
 use mir.Facts.{toZ-ofZ}
@@ -15,12 +15,16 @@ use Rattle.theory.specs.Table.{absent, Present, Order, Entries}
 use Rattle.theory.proofs.Signed.{signed}
 use Rattle.orders.specs.Tested.{Tells}
 
+-- a test does not come out both ways
+pub clash {ℓ} : {X : Type ℓ} {b : Bool} → b ≡ true → b ≡ false → X
+clash p q = absurd (let z : _≡_ {A = ℕ} 0 1 = cc in omega arith)
+
 -- a statement that holds is told by `true`, one that fails by `false`
 pub tells-yes : {P : Type 0} → P → Tells true P
-tells-yes p = record { holds = λ e. p; fails = λ e q. absurd (let z : _≡_ {A = ℕ} 0 1 = cc in omega arith) }
+tells-yes p = record { holds = λ e. p; fails = λ e q. clash refl e }
 
 pub tells-no : {P : Type 0} → (P → ⊥) → Tells false P
-tells-no f = record { holds = λ e. absurd (let z : _≡_ {A = ℕ} 0 1 = cc in omega arith); fails = λ e. f }
+tells-no f = record { holds = λ e. clash e refl; fails = λ e. f }
 
 -- the bits of −32768 are those of no other number of 16 bits
 pub absent-bits : (v : ℤ) → SFits w16 v → ofZ w16 v ≡ 32768 → v ≡ absent
@@ -52,3 +56,10 @@ entry-high v ne t =
 pub entries-more : (limit : ℕ) (t : List ℤ) (i : ℕ) → ((k : ℕ) → k < i → Present (getD t k (pos 0)) → Order limit (getD t k (pos 0)))
     → (Present (getD t i (pos 0)) → Order limit (getD t i (pos 0))) → (k : ℕ) → k < i + 1 → Present (getD t k (pos 0)) → Order limit (getD t k (pos 0))
 entries-more limit t i below this k h = elim (ℕ-discrete k i) [ yes e ↦ rw e this | no ne ↦ below k (omega arith) ]
+
+-- two signed numbers compared as the machine holds them
+pub read-le : {w : Width} {x y : ℤ} → SFits w x → SFits w y → leZ (toZ w (ofZ w x)) (toZ w (ofZ w y)) ≡ true → x ≤ℤ y
+read-le {w} {x} {y} f g t = let u : leZ x y ≡ true = simp (toZ-ofZ) at t in omega (arith, signed)
+
+pub read-gt : {w : Width} {x y : ℤ} → SFits w x → SFits w y → leZ (toZ w (ofZ w x)) (toZ w (ofZ w y)) ≡ false → y ≤ℤ x
+read-gt {w} {x} {y} f g t = let u : leZ x y ≡ false = simp (toZ-ofZ) at t in omega (arith, signed)

@@ -1,3 +1,4 @@
 -- What the contracts of this crate cite.
 pub mod Refusals
 pub mod Tested
+pub mod Places

@@ -3,6 +3,10 @@ ghost use Rattle.theory.specs.Table.{Present, Order, Entries};
 ghost use Rattle.theory.specs.Limits.{order};
 ghost use Rattle.orders.specs.Refusals.{numberOf};
 ghost use Rattle.orders.specs.Tested.{Tells};
+ghost use Rattle.orders.specs.Places.{room, Square, Roomy, TopOf, Taller};
+ghost use Rattle.theory.specs.Table.{entry};
+ghost use Prim.Native.Nat.{_≤_, _<_};
+ghost use lib.IntN.{pos, _+ℤ_};
 
 // Document 01's limits.
 pub const ROWS: usize = 32;
@@ -79,4 +83,64 @@ pub fn entries_stand(table: &[i16]) -> bool
         k += 1;
     }
     true
+}
+
+// What stands in row i and column j.
+pub fn place(table: &[i16], n: usize, i: usize, j: usize) -> i16
+    requires { ⌜ Square (now table) n × (i < n) × (j < n) ⌝ }
+    ensures { λ r. ⌜ r ≡ entry (now (table .entry)) n i j ⌝ }
+{
+    table[i * n + j]
+}
+
+// An order raised by an addition.
+pub fn raise(order: i16, addition: u32) -> i32
+    requires { ⌜ addition ≤ room ⌝ }
+    ensures { λ r. ⌜ r ≡ order +ℤ pos addition ⌝ }
+{
+    order as i32 + addition as i32
+}
+
+// A column's head, as far as it is known: whether an order is present, and the largest raised order.
+pub struct Top {
+    pub present: bool,
+    pub head: i32,
+}
+
+// The greater of a head and one more order of the column, raised.
+fn taller(top: Top, order: i16, addition: u32) -> Top
+    requires { ⌜ addition ≤ room ⌝ }
+    ensures { λ r. ⌜ Taller order addition top r ⌝ }
+{
+    if order == ABSENT {
+        return top;
+    }
+    let raised = raise(order, addition);
+    if top.present {
+        if raised <= top.head {
+            return top;
+        }
+    }
+    Top {
+        present: true,
+        head: raised,
+    }
+}
+
+// The head of column j with the additions given.
+pub fn head(table: &[i16], n: usize, additions: &[u32; ROWS], j: usize) -> Top
+    requires { ⌜ Square (now table) n × (j < n) × Roomy n (now additions) ⌝ }
+    ensures { λ r. ⌜ TopOf (now (table .entry)) n n (now (additions .entry)) j r ⌝ }
+{
+    let mut top = Top {
+        present: false,
+        head: 0,
+    };
+    let mut i = 0;
+    while i < n {
+        let order = place(table, n, i, j);
+        top = taller(top, order, additions[i]);
+        i += 1;
+    }
+    top
 }

@@ -1,5 +1,6 @@
 -- What the customer must believe, each word of document 01 once.
 pub mod Limits
+pub mod Lists
 pub mod Totals
 pub mod Table
 pub mod Canon

@@ -40,3 +40,10 @@ pub record Taller (v : ℤ) (l : ℕ) (top r : Top) : Type 0 where
   pub this : Present v → (v +ℤ pos l) ≤ℤ r .head
   pub other : Present v → top .present ≡ true → top .head ≤ℤ r .head
   pub one : Present v → (r ≡ top) ⊎ (r .head ≡ v +ℤ pos l)
+
+-- row-of-column and column-of-row marks of a complete transversal: each undoes the other
+pub record Marks (n : ℕ) (row-of column-of : ℕ → ℕ) : Type 0 where
+  pub column : (i : ℕ) → i < n → column-of i < n
+  pub row : (j : ℕ) → j < n → row-of j < n
+  pub back : (i : ℕ) → i < n → row-of (column-of i) ≡ i
+  pub forth : (j : ℕ) → j < n → column-of (row-of j) ≡ j

@@ -1,3 +1,5 @@
 pub mod Signed
 pub mod Pigeonhole
 pub mod Totals
+pub mod Duality
+pub mod Lattice

@@ -4,13 +4,19 @@ use mathlib.Core.Logic.{_≢_}
 use Prim.Native.Nat.{ℕ, zero, suc, _+_, _*_, _≤_, _<_}
 use native.Mathlib.Decide.{ℕ-discrete}
 use native.Mathlib.Omega.{arith}
-use Rattle.theory.specs.Totals.{totalℕ}
+use lib.IntN.{ℤ, _+ℤ_}
+use Rattle.theory.specs.Totals.{total, totalℕ}
 use Rattle.theory.proofs.Pigeonhole.{Into, Apart, choose, choose-yes, choose-no, onto}
 
 pub total-same : (n : ℕ) (f g : ℕ → ℕ) → ((i : ℕ) → i < n → f i ≡ g i) → totalℕ n f ≡ totalℕ n g
 unfolding totalℕ
 total-same zero f g e = refl
 total-same (suc n) f g e = ap₂ _+_ (total-same n f g (λ i h. e i (omega arith))) (e n (omega arith))
+
+pub total-sameℤ : (n : ℕ) (f g : ℕ → ℤ) → ((i : ℕ) → i < n → f i ≡ g i) → total n f ≡ total n g
+unfolding total
+total-sameℤ zero f g e = refl
+total-sameℤ (suc n) f g e = ap₂ _+ℤ_ (total-sameℤ n f g (λ i h. e i (omega arith))) (e n (omega arith))
 
 pub total-le : (n : ℕ) (f g : ℕ → ℕ) → ((i : ℕ) → i < n → f i ≤ g i) → totalℕ n f ≤ totalℕ n g
 unfolding totalℕ

@@ -7,6 +7,7 @@ use mathlib.Core.Path.{_≡_, refl}
 use mathlib.Core.Bool.{Bool, true, false, not, cond}
 use Prim.Native.Nat.{ℕ, zero, suc, _+_, _-_, _*_, _^_, _≤_, _<_}
 use native.Mathlib.Nat.{mul-le-mul-left}
+use native.Mathlib.Decide.{ℕ-discrete}
 use native.Mathlib.Omega.{arith}
 use borrow.Author.Tests.{lt-ltb}
 use lib.Dec.{T, ltb, leb, nleb→lt, ltb→lt, nltb→le, leb→le, le→leb, lt→ltb}
@@ -130,6 +131,14 @@ raised-eq-ud a b l m h = omega (arith, eq-ud (a +ℤ pos l) (b +ℤ pos m) h, pl
 pub ud-raised-eq : (a b : ℤ) (l m : ℕ) → up a + l + dn b ≡ up b + m + dn a → a +ℤ pos l ≡ b +ℤ pos m
 ud-raised-eq a b l m h = ud-eq (a +ℤ pos l) (b +ℤ pos m) (omega (arith, plus a (pos l), plus b (pos m)))
 
+-- two raised orders that are compared and not equal
+pub raised-lt-ud : (a b : ℤ) (l m : ℕ) → (a +ℤ pos l) ≤ℤ (b +ℤ pos m) → (a +ℤ pos l ≡ b +ℤ pos m → ⊥) → up a + l + dn b < up b + m + dn a
+raised-lt-ud a b l m h ne =
+    elim (ℕ-discrete (up a + l + dn b) (up b + m + dn a)) [
+      | yes e ↦ absurd (ne (ud-raised-eq a b l m e))
+      | no d ↦ omega (arith, raised-le-ud a b l m h)
+    ]
+
 -- ---- ranges of the machine's numbers
 -- Both bounds are one linear statement, since `omega` applies one rule to a hypothesis: one of `up z` and `dn z` is 0, and with
 -- H for 2 ^ (w − 1) it says that `up z` is at most H − 1 and `dn z` at most H.
@@ -145,7 +154,7 @@ pub ud-sfits : (w : Width) (z : ℤ) → (up z - dn z) + (dn z - suc (up z)) < 2
 ud-sfits w (pos n) h = record { sfits = omega arith }
 ud-sfits w (negsuc n) h = record { sfits = omega arith }
 
-pub ruleset signed = (le-ud, ud-le, lt-ud, ud-lt, eq-ud, ud-eq, ltZ-true-ud, ltZ-false-ud, leZ-true-ud, leZ-false-ud, neg-le-ud, sfits-ud, ud-sfits)
+pub ruleset signed = (neg-le-ud, le-ud, ud-le, lt-ud, ud-lt, eq-ud, ud-eq, ltZ-true-ud, ltZ-false-ud, leZ-true-ud, leZ-false-ud, sfits-ud, ud-sfits)
 
 -- ---- totals
 pub total-ud : (n : ℕ) (f : ℕ → ℤ) → up (total n f) + totalℕ n (λ i. dn (f i)) ≡ dn (total n f) + totalℕ n (λ i. up (f i))

@@ -39,6 +39,23 @@ unfolding totalℕ
 total-bound zero b f e = omega arith
 total-bound (suc n) b f e = omega (arith, total-bound n b f (λ i h. e i (omega arith)), e n (omega arith))
 
+-- a place is at most the total
+pub total-ge : (n : ℕ) (f : ℕ → ℕ) (k : ℕ) → k < n → f k ≤ totalℕ n f
+unfolding totalℕ
+total-ge zero f k h = absurd (omega arith)
+total-ge (suc n) f k h = elim (ℕ-discrete k n) [ yes e ↦ rw e (omega arith) | no ne ↦ omega (arith, total-ge n f k (omega arith)) ]
+
+-- where f is at most g at each place and less at one, its total is less
+pub total-lt : (n : ℕ) (f g : ℕ → ℕ) (k : ℕ) → ((i : ℕ) → i < n → f i ≤ g i) → k < n → f k < g k → totalℕ n f < totalℕ n g
+unfolding totalℕ
+total-lt zero f g k le h lt = absurd (omega arith)
+total-lt (suc n) f g k le h lt =
+    let below : (i : ℕ) → i < n → f i ≤ g i = λ i hi. le i (omega arith) in
+    elim (ℕ-discrete k n) [
+      | yes e ↦ let last : f n < g n = rw e at lt in omega (arith, total-le n f g below)
+      | no ne ↦ omega (arith, total-lt n f g k below (omega arith) lt, le n (omega arith))
+    ]
+
 -- P2, second half: where f is at most g at each place and the totals are equal, f is g at each place
 pub total-tight : (n : ℕ) (f g : ℕ → ℕ) → ((i : ℕ) → i < n → f i ≤ g i) → totalℕ n g ≤ totalℕ n f → (i : ℕ) → i < n → f i ≡ g i
 unfolding totalℕ

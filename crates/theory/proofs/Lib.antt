@@ -5,3 +5,5 @@ pub mod Duality
 pub mod Lattice
 pub mod Reach
 pub mod Bounds
+pub mod Search
+pub mod Cases

@@ -3,9 +3,9 @@
 use mathlib.Core.Path.{_≡_}
 use Prim.Native.Nat.{ℕ, _+_, _≤_, _<_}
 use lib.IntN.{ℤ, pos, _+ℤ_, _-ℤ_}
-use lib.Signed.{_≤ℤ_}
+use lib.Signed.{_≤ℤ_, _<ℤ_}
 use Rattle.theory.specs.Totals.{total, totalℕ}
-use Rattle.theory.specs.Table.{Present}
+use Rattle.theory.specs.Table.{absent, Present}
 
 module _ (n : ℕ) (a : ℕ → ℕ → ℤ) where
   -- "A complete transversal takes one present order from each row, no two in one column." Row i's order is in column σ i.
@@ -87,6 +87,11 @@ module _ (n : ℕ) (a : ℕ → ℕ → ℤ) where
   pub record Greatest (σ : ℕ → ℕ) : Type 0 where
     pub transversal : Transversal σ
     pub greatest : (τ : ℕ → ℕ) → Transversal τ → sum τ ≤ℤ sum σ
+
+  -- refusal 8's "a star lies on an absent place, or the stars' sum isn't the greatest"
+  pub data Misplaced (σ : ℕ → ℕ) : Type 0 where
+    on-absent : (i : ℕ) → i < n → a i (σ i) ≡ absent → Misplaced σ
+    exceeded : (τ : ℕ → ℕ) → Transversal τ → sum σ <ℤ sum τ → Misplaced σ
 
   -- the whole answer of a route: additions, stars, heads and sum
   pub record Solution (start l σ : ℕ → ℕ) (h : ℕ → ℤ) (s : ℤ) : Type 0 where

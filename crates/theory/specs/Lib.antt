@@ -4,3 +4,4 @@ pub mod Lists
 pub mod Totals
 pub mod Table
 pub mod Canon
+pub mod Cases

@@ -1,0 +1,404 @@
+-- The P tables: one test of a case that the checker computes, one theorem that turns the test into the definitions, and the list.
+-- The simplest canon is told by 001's proposition VII (the levels exhaust the rows), the first stars, "no canon" and "no
+-- transversal" by a search through the rows, the sum and the heads by working them out. Assumes nothing.
+use mathlib.Core.Path.{_≡_, refl, sym, _∙_, ap}
+use mathlib.Core.Logic.{_⊎_, inl, inr}
+use mathlib.Core.Bool.{Bool, true, false, not, _&&_, _||_}
+use mathlib.Core.List.{List, [], _∷_}
+use Prim.Native.Nat.{ℕ, zero, suc, _+_, _-_, _*_, _≤_, _<_}
+use native.Mathlib.Omega.{arith}
+use lib.Dec.{T, eqb, leb, ltb, eqb→eq, eqb-refl, leb→le, ltb→lt, lt→ltb, T-not, not-T}
+use lib.IntN.{ℤ, pos, negℤ, _+ℤ_}
+use lib.ListN.{length, getD}
+use lib.Signed.{_≤ℤ_, _<ℤ_, leZ, ltZ, leZ-yes, ltZ-yes, ≤ℤ-refl}
+use Rattle.theory.specs.Totals.{total}
+use Rattle.theory.specs.Limits.{order}
+use Rattle.theory.specs.Lists.{nums, ints, flags, columns}
+use Rattle.theory.specs.Table.{absent, Present, Order, entry, Entries}
+use Rattle.theory.specs.Canon.{Transversal, raised, Maximum, OfMaxima, Canon, LeastFrom, Heads, Before, Stars, sum, Greatest, Misplaced, exceeded, Solution}
+use Rattle.theory.specs.Cases.{Handed, nothing, additions, stars, Outcome, answer, refusal6, refusal7, refusal8, Case, StarList, Leads, NoCanon, Misplaces, SomeTransversal, Comes, Right, Every, cases}
+use Rattle.theory.proofs.Pigeonhole.{onto}
+use Rattle.theory.proofs.Signed.{signed}
+use Rattle.theory.proofs.Lattice.{sum-same}
+use Rattle.theory.proofs.Reach.{Level, levels-least}
+use Rattle.theory.proofs.Search.{guard, fresh, search, both, and-both, either, left-either, right-either, every, every-told, all, all-told, all-tells, some, some-told, some-tells, listed, listed-at, found, found-told, found-tells, Chosen}
+
+-- ---- tests of numbers
+same : ℤ → ℤ → Bool
+same a b = leZ a b && leZ b a
+
+same-told : (a b : ℤ) → T (same a b) → a ≡ b
+unfolding same
+same-told a b t =
+    let (p, q) = both (leZ a b) (leZ b a) t in
+    let le : a ≤ℤ b = leZ-yes p in
+    let ge : b ≤ℤ a = leZ-yes q in
+    omega (arith, signed)
+
+same-tells : (a b : ℤ) → a ≡ b → T (same a b)
+unfolding same
+same-tells a b e = rw e (and-both (leZ b b) (leZ b b) (≤ℤ-refl b .le) (≤ℤ-refl b .le))
+
+present : ℤ → Bool
+present v = not (same v absent)
+
+present-told : (v : ℤ) → T (present v) → Present v
+unfolding present
+present-told v t e = T-not (same v absent) t (same-tells v absent e)
+
+present-tells : (v : ℤ) → Present v → T (present v)
+unfolding present
+present-tells v p = not-T (same v absent) (λ t. p (same-told v absent t))
+
+-- either a fails or b passes
+implies : Bool → Bool → Bool
+implies a b = not a || b
+
+implies-told : (a b : Bool) → T (implies a b) → T a → T b
+unfolding implies
+implies-told true b t p = t
+
+implies-tells : (a b : Bool) → (T a → T b) → T (implies a b)
+unfolding implies
+implies-tells true b f = f tt
+implies-tells false b f = tt
+
+module _ (n : ℕ) (a : ℕ → ℕ → ℤ) where
+  -- ---- a column maximum
+  maximum : (ℕ → ℕ) → ℕ → ℕ → Bool
+  maximum l i j = present (a i j) && all n (λ k. implies (present (a k j)) (leZ (raised n a l k j) (raised n a l i j)))
+
+  maximum-told : (l : ℕ → ℕ) (i j : ℕ) → T (maximum l i j) → Maximum n a l i j
+  unfolding maximum
+  maximum-told l i j t =
+      let (p, q) = both (present (a i j)) (all n (λ k. implies (present (a k j)) (leZ (raised n a l k j) (raised n a l i j)))) t in
+      record {
+        present = present-told (a i j) p;
+        unexceeded = λ k hk r.
+            leZ-yes (implies-told (present (a k j)) (leZ (raised n a l k j) (raised n a l i j))
+            (all-told n (λ k. implies (present (a k j)) (leZ (raised n a l k j) (raised n a l i j))) q k hk) (present-tells (a k j) r));
+      }
+
+  maximum-tells : (l : ℕ → ℕ) (i j : ℕ) → Maximum n a l i j → T (maximum l i j)
+  unfolding maximum
+  maximum-tells l i j m =
+      and-both (present (a i j)) (all n (λ k. implies (present (a k j)) (leZ (raised n a l k j) (raised n a l i j)))) (present-tells (a i j) (m .present))
+      (all-tells n (λ k. implies (present (a k j)) (leZ (raised n a l k j) (raised n a l i j)))
+      (λ k hk. implies-tells (present (a k j)) (leZ (raised n a l k j) (raised n a l i j)) (λ p. m .unexceeded k hk (present-told (a k j) p) .le)))
+
+  -- ---- transversals of present orders, and of column maxima
+  any : List ℕ → Bool
+  any q = true
+
+  transversal : Bool
+  transversal = found n (λ i j. present (a i j)) any
+
+  transversal-told : T transversal → SomeTransversal n a
+  unfolding transversal
+  transversal-told t = let (q, e, c, u) = found-told n (λ i j. present (a i j)) any t in (nums q, of q e c)
+    where
+      of : (q : List ℕ) → length q ≡ n → Chosen n (λ i j. present (a i j)) any q → Transversal n a (nums q)
+      of q e c =
+          record {
+            inside = λ i hi. c .inside i (omega arith);
+            present = λ i hi. present-told (a i (nums q i)) (c .places i (omega arith));
+            apart = λ i k hi hk. c .apart i k (omega arith) (omega arith);
+          }
+
+  none-told : T (not transversal) → (σ : ℕ → ℕ) → Transversal n a σ → ⊥
+  unfolding transversal any
+  none-told t σ r =
+      T-not transversal t (found-tells n (λ i j. present (a i j)) any σ (r .inside) (λ i hi. present-tells (a i (σ i)) (r .present i hi)) (r .apart) (λ q e s. tt))
+
+  canon : (ℕ → ℕ) → Bool
+  canon l = found n (maximum l) any
+
+  canon-told : (l : ℕ → ℕ) → T (canon l) → Canon n a l
+  unfolding canon
+  canon-told l t = let (q, e, c, u) = found-told n (maximum l) any t in record { columns = nums q; of-maxima = of q e c }
+    where
+      of : (q : List ℕ) → length q ≡ n → Chosen n (maximum l) any q → OfMaxima n a l (nums q)
+      of q e c =
+          record {
+            transversal = record {
+              inside = λ i hi. c .inside i (omega arith);
+              present = λ i hi. maximum-told l i (nums q i) (c .places i (omega arith)) .present;
+              apart = λ i k hi hk. c .apart i k (omega arith) (omega arith);
+            };
+            maximum = λ i hi. maximum-told l i (nums q i) (c .places i (omega arith));
+          }
+
+  no-canon-told : (l : ℕ → ℕ) → T (not (canon l)) → Canon n a l → ⊥
+  unfolding canon any
+  no-canon-told l t c =
+      let m = c .of-maxima in
+      T-not (canon l) t (found-tells n (maximum l) any (c .columns) (m .transversal .inside) (λ i hi. maximum-tells l i (c .columns i) (m .maximum i hi)) (m .transversal .apart) (λ q e s. tt))
+
+  -- ---- transversals of a greater sum
+  more : (ℕ → ℕ) → List ℕ → Bool
+  more σ q = ltZ (sum n a σ) (sum n a (nums q))
+
+  surpassed : (ℕ → ℕ) → Bool
+  surpassed σ = found n (λ i j. present (a i j)) (more σ)
+
+  surpassed-told : (σ : ℕ → ℕ) → T (surpassed σ) → Misplaced n a σ
+  unfolding surpassed more
+  surpassed-told σ t =
+      let (q, e, c, u) = found-told n (λ i j. present (a i j)) (more σ) t in
+      exceeded (nums q)
+      (record {
+        inside = λ i hi. c .inside i (omega arith);
+        present = λ i hi. present-told (a i (nums q i)) (c .places i (omega arith));
+        apart = λ i k hi hk. c .apart i k (omega arith) (omega arith);
+      })
+      (ltZ-yes u)
+
+  unsurpassed-told : (σ : ℕ → ℕ) → T (not (surpassed σ)) → (τ : ℕ → ℕ) → Transversal n a τ → sum n a τ ≤ℤ sum n a σ
+  unfolding surpassed more
+  unsurpassed-told σ t τ r = go (ltZ (sum n a σ) (sum n a τ)) refl
+    where
+      go : (b : Bool) → ltZ (sum n a σ) (sum n a τ) ≡ b → sum n a τ ≤ℤ sum n a σ
+      go true e =
+          absurd (T-not (surpassed σ) t (found-tells n (λ i j. present (a i j)) (more σ) τ (r .inside) (λ i hi. present-tells (a i (τ i)) (r .present i hi)) (r .apart)
+          (λ q len s. rw (sum-same n a {σ = nums q} {τ = τ} s, e) tt)))
+      go false e = omega (arith, signed)
+
+  -- ---- a transversal that comes before
+  before : (ℕ → ℕ) → List ℕ → Bool
+  before σ q = some n (λ i. ltb (nums q i) (σ i) && all i (λ k. eqb (nums q k) (σ k)))
+
+  preceded : (l σ : ℕ → ℕ) → Bool
+  preceded l σ = found n (maximum l) (before σ)
+
+  first-told : (l σ : ℕ → ℕ) → T (not (preceded l σ)) → (τ : ℕ → ℕ) → OfMaxima n a l τ → Before n a τ σ → ⊥
+  unfolding preceded before
+  first-told l σ t τ m b =
+      T-not (preceded l σ) t
+      (found-tells n (maximum l) (before σ) τ (m .transversal .inside) (λ i hi. maximum-tells l i (τ i) (m .maximum i hi)) (m .transversal .apart)
+      (λ q len s.
+      some-tells n (λ i. ltb (nums q i) (σ i) && all i (λ k. eqb (nums q k) (σ k))) (b .row) (b .inside)
+      (and-both (ltb (nums q (b .row)) (σ (b .row))) (all (b .row) (λ k. eqb (nums q k) (σ k))) (lt→ltb (nums q (b .row)) (σ (b .row)) (omega (arith, s (b .row) (b .inside), b .smaller)))
+      (all-tells (b .row) (λ k. eqb (nums q k) (σ k)) (λ k hk. rw (s k (omega (arith, b .inside)) ∙ b .same k hk) (eqb-refl (σ k)))))))
+
+  -- ---- levels
+  next : (l σ : ℕ → ℕ) → List Bool → List Bool
+  next l σ old = listed n (λ i. flags old i || some n (λ k. flags old k && maximum l k (σ i)))
+
+  levels : (l σ : ℕ → ℕ) → ℕ → List Bool
+  levels l σ zero = listed n (λ i. eqb (l i) 0)
+  levels l σ (suc t) = next l σ (levels l σ t)
+
+  level-told : (l σ : ℕ → ℕ) (t i : ℕ) → T (flags (levels l σ t) i) → Level n a (λ i. 0) l σ t i
+  unfolding levels next Level
+  level-told l σ zero i u = eqb→eq (l i) 0 (listed-at n (λ i. eqb (l i) 0) i u)
+  level-told l σ (suc t) i u =
+      go (either (flags (levels l σ t) i) (some n (λ k. flags (levels l σ t) k && maximum l k (σ i)))
+      (listed-at n (λ i. flags (levels l σ t) i || some n (λ k. flags (levels l σ t) k && maximum l k (σ i))) i u)) (level-told l σ t)
+    where
+      go : T (flags (levels l σ t) i) ⊎ T (some n (λ k. flags (levels l σ t) k && maximum l k (σ i)))
+          → ((i : ℕ) → T (flags (levels l σ t) i) → Level n a (λ i. 0) l σ t i) → Level n a (λ i. 0) l σ (suc t) i
+      go (inl v) rec = inl (rec i v)
+      go (inr v) rec =
+          let (k, hk, w) = some-told n (λ k. flags (levels l σ t) k && maximum l k (σ i)) v in
+          let (f, m) = both (flags (levels l σ t) k) (maximum l k (σ i)) w in
+          inr (k, hk, maximum-told l k (σ i) m, rec k f)
+
+-- ---- a list of stars
+module _ (n : ℕ) (s : List ℕ) where
+  star-tests : List Bool
+  star-tests =
+      eqb (length s) n ∷
+      all n (λ i. leb 1 (nums s i)) ∷
+      all n (λ i. leb (nums s i) n) ∷
+      all n (λ i. all n (λ k. implies (eqb (nums s i) (nums s k)) (eqb i k))) ∷ []
+
+  star-list-told : T (every star-tests) → StarList n s
+  unfolding star-tests
+  star-list-told t =
+      record {
+        long = eqb→eq (length s) n (every-told star-tests t 0);
+        from-one = λ i hi. leb→le 1 (nums s i) (all-told n (λ i. leb 1 (nums s i)) (every-told star-tests t 1) i hi);
+        to-size = λ i hi. leb→le (nums s i) n (all-told n (λ i. leb (nums s i) n) (every-told star-tests t 2) i hi);
+        none-twice = λ i k hi hk e.
+            eqb→eq i k (implies-told (eqb (nums s i) (nums s k)) (eqb i k)
+            (all-told n (λ k. implies (eqb (nums s i) (nums s k)) (eqb i k))
+            (all-told n (λ i. all n (λ k. implies (eqb (nums s i) (nums s k)) (eqb i k))) (every-told star-tests t 3) i hi) k hk)
+            (rw e (eqb-refl (nums s k))));
+      }
+
+-- stars that are listed and stand on present orders are a transversal
+stars-transversal : {n : ℕ} {a : ℕ → ℕ → ℤ} {s : List ℕ} → StarList n s → ((i : ℕ) → i < n → Present (a i (columns s i))) → Transversal n a (columns s)
+stars-transversal o p =
+    record {
+      inside = λ i hi. omega (arith, o .from-one i hi, o .to-size i hi);
+      present = p;
+      apart = λ i k hi hk e. o .none-twice i k hi hk (omega (arith, o .from-one i hi, o .from-one k hk));
+    }
+
+-- ---- a whole answer
+module _ (n : ℕ) (a : ℕ → ℕ → ℤ) (l s : List ℕ) (h : List ℤ) (z : ℤ) where
+  answer-tests : List Bool
+  answer-tests =
+      every (star-tests n s) ∷
+      eqb (length l) n ∷
+      eqb (length h) n ∷
+      all n (λ i. maximum n a (nums l) i (columns s i)) ∷
+      all n (λ i. flags (levels n a (nums l) (columns s) n) i) ∷
+      not (preceded n a (nums l) (columns s)) ∷
+      all n (λ i. same (ints h (columns s i)) (raised n a (nums l) i (columns s i))) ∷
+      same z (sum n a (columns s)) ∷ []
+
+  module _ (t : T (every answer-tests)) where
+    listing : StarList n s
+    unfolding answer-tests
+    listing = star-list-told n s (every-told answer-tests t 0)
+
+    at-maximum : (i : ℕ) → i < n → Maximum n a (nums l) i (columns s i)
+    unfolding answer-tests
+    at-maximum i hi = maximum-told n a (nums l) i (columns s i) (all-told n (λ i. maximum n a (nums l) i (columns s i)) (every-told answer-tests t 3) i hi)
+
+    of-maxima : OfMaxima n a (nums l) (columns s)
+    of-maxima = record { transversal = stars-transversal listing (λ i hi. at-maximum i hi .present); maximum = at-maximum }
+
+    -- each column is that of some row, by the pigeonhole, and its head is that row's raised order
+    heads : Heads n a (nums l) (ints h)
+    unfolding answer-tests
+    heads j hj = go (onto n (columns s) (of-maxima .transversal .apart) (of-maxima .transversal .inside) j hj)
+      where
+        go : (i : ℕ) × (i < n) × (columns s i ≡ j) → Rattle.theory.specs.Canon.Head n a (nums l) j (ints h j)
+        go (i, hi, e) =
+            rw (← e)
+            record {
+              row = i;
+              inside = hi;
+              maximum = at-maximum i hi;
+              is = same-told (ints h (columns s i)) (raised n a (nums l) i (columns s i))
+                  (all-told n (λ i. same (ints h (columns s i)) (raised n a (nums l) i (columns s i))) (every-told answer-tests t 6) i hi);
+            }
+
+    solution : Solution n a (λ i. 0) (nums l) (columns s) (ints h) z
+    unfolding answer-tests
+    solution =
+        record {
+          additions = levels-least n a n of-maxima (λ i hi. omega arith)
+              (λ i hi. level-told n a (nums l) (columns s) n i (all-told n (λ i. flags (levels n a (nums l) (columns s) n) i) (every-told answer-tests t 4) i hi));
+          stars = record { of-maxima = of-maxima; first = first-told n a (nums l) (columns s) (every-told answer-tests t 5) };
+          heads = heads;
+          is-sum = same-told z (sum n a (columns s)) (every-told answer-tests t 7);
+        }
+
+    lengths : (length l ≡ n) × (length h ≡ n)
+    unfolding answer-tests
+    lengths = (eqb→eq (length l) n (every-told answer-tests t 1), eqb→eq (length h) n (every-told answer-tests t 2))
+
+-- ---- what is handed in, and what comes of it
+module _ (n : ℕ) (a : ℕ → ℕ → ℤ) where
+  leads : Handed → Bool
+  leads nothing = true
+  leads (additions m) = eqb (length m) n && canon n a (nums m)
+  leads (stars s) = every (star-tests n s) && (all n (λ i. present (a i (columns s i))) && not (surpassed n a (columns s)))
+
+  leads-told : (given : Handed) → T (leads given) → Leads n a given
+  unfolding leads
+  leads-told nothing t = tt
+  leads-told (additions m) t =
+      let (e, c) = both (eqb (length m) n) (canon n a (nums m)) t in
+      (eqb→eq (length m) n e, canon-told n a (nums m) c)
+  leads-told (stars s) t =
+      let (o, r) = both (every (star-tests n s)) (all n (λ i. present (a i (columns s i))) && not (surpassed n a (columns s))) t in
+      let (p, q) = both (all n (λ i. present (a i (columns s i)))) (not (surpassed n a (columns s))) r in (
+        star-list-told n s o,
+        record {
+          transversal = stars-transversal (star-list-told n s o)
+              (λ i hi. present-told (a i (columns s i)) (all-told n (λ i. present (a i (columns s i))) p i hi));
+          greatest = unsurpassed-told n a (columns s) q;
+        },
+      )
+
+  refused-canon : Handed → Bool
+  refused-canon nothing = false
+  refused-canon (additions m) = eqb (length m) n && not (canon n a (nums m))
+  refused-canon (stars s) = false
+
+  refused-canon-told : (given : Handed) → T (refused-canon given) → NoCanon n a given
+  unfolding refused-canon
+  refused-canon-told nothing t = t
+  refused-canon-told (additions m) t =
+      let (e, c) = both (eqb (length m) n) (not (canon n a (nums m))) t in
+      (eqb→eq (length m) n e, no-canon-told n a (nums m) c)
+  refused-canon-told (stars s) t = t
+
+  refused-stars : Handed → Bool
+  refused-stars nothing = false
+  refused-stars (additions m) = false
+  refused-stars (stars s) = every (star-tests n s) && surpassed n a (columns s)
+
+  refused-stars-told : (given : Handed) → T (refused-stars given) → Misplaces n a given
+  unfolding refused-stars
+  refused-stars-told nothing t = t
+  refused-stars-told (additions m) t = t
+  refused-stars-told (stars s) t =
+      let (o, r) = both (every (star-tests n s)) (surpassed n a (columns s)) t in
+      (star-list-told n s o, surpassed-told n a (columns s) r)
+
+  comes : Handed → Outcome → Bool
+  comes given (answer l s h z) = leads given && every (answer-tests n a l s h z)
+  comes given refusal6 = not (transversal n a)
+  comes given refusal7 = transversal n a && refused-canon given
+  comes given refusal8 = transversal n a && refused-stars given
+
+  comes-told : (given : Handed) (o : Outcome) → T (comes given o) → Comes n a given o
+  unfolding comes
+  comes-told given (answer l s h z) t =
+      let (f, g) = both (leads given) (every (answer-tests n a l s h z)) t in
+      let (p, q) = lengths n a l s h z g in
+      (leads-told given f, listing n a l s h z g, p, q, solution n a l s h z g)
+  comes-told given refusal6 t = none-told n a t
+  comes-told given refusal7 t =
+      let (f, g) = both (transversal n a) (refused-canon given) t in
+      (transversal-told n a f, refused-canon-told given g)
+  comes-told given refusal8 t =
+      let (f, g) = both (transversal n a) (refused-stars given) t in
+      (transversal-told n a f, refused-stars-told given g)
+
+-- ---- the test of a case
+within : ℤ → Bool
+within v = implies (present v) (leZ (negℤ (pos order)) v && leZ v (pos order))
+
+pub test : Case → Bool
+test c =
+    eqb (length (c .table)) (c .size * c .size)
+    && (all (length (c .table)) (λ k. within (getD (c .table) k (pos 0))) && comes (c .size) (entry (c .table) (c .size)) (c .handed) (c .outcome))
+
+-- the one theorem: a case that passes the test is right, by the definitions
+pub right : (c : Case) → T (test c) → Right c
+unfolding test within
+right c t =
+    let a : ℕ → ℕ → ℤ = entry (c .table) (c .size) in
+    let (e, r) = both (eqb (length (c .table)) (c .size * c .size))
+    (all (length (c .table)) (λ k. within (getD (c .table) k (pos 0))) && comes (c .size) a (c .handed) (c .outcome)) t in
+    let (w, o) = both (all (length (c .table)) (λ k. within (getD (c .table) k (pos 0)))) (comes (c .size) a (c .handed) (c .outcome)) r in
+    record {
+      square = eqb→eq (length (c .table)) (c .size * c .size) e;
+      entries = λ k hk p. orders (getD (c .table) k (pos 0)) (all-told (length (c .table)) (λ k. within (getD (c .table) k (pos 0))) w k hk) p;
+      comes = comes-told (c .size) a (c .handed) (c .outcome) o;
+    }
+  where
+    orders : (v : ℤ) → T (within v) → Present v → Order order v
+    orders v u p =
+        let (lo, hi) = both (leZ (negℤ (pos order)) v) (leZ v (pos order)) (implies-told (present v) (leZ (negℤ (pos order)) v && leZ v (pos order)) u (present-tells v p)) in
+        record { low = leZ-yes lo; high = leZ-yes hi }
+
+tests : List Case → Bool
+tests [] = true
+tests (c ∷ cs) = test c && tests cs
+
+all-right : (cs : List Case) → T (tests cs) → Every Right cs
+unfolding tests
+all-right [] t = tt
+all-right (c ∷ cs) t = let (p, q) = both (test c) (tests cs) t in (right c p, all-right cs q)
+
+-- every P table of document 01 is right: the test of the whole list is computed here
+pub cases-right : Every Right cases
+unfolding tests test within comes leads refused-canon refused-stars answer-tests star-tests levels next preceded before surpassed more canon transversal any maximum implies present same total guard every all some listed fresh search found
+cases-right = all-right cases tt

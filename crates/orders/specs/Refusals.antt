@@ -1,5 +1,7 @@
 -- Document 01's "Refusal numbers": the number and the values of each case of the refusal.
 use Prim.Native.Nat.{ℕ}
+use mathlib.Core.Path.{_≡_}
+use mathlib.Core.Logic.{_⊎_}
 use mathlib.Core.List.{List, [], _∷_}
 use Rattle.orders.specs.declared.Refusal.{Refusal}
 use Rattle.orders.specs.declared.Refusal.the-variants.{Size, Length, Entry, Addition, StarList, NoTransversal, NoCanon, NotGreatest, TooLong, Line, Label, Room}
@@ -33,3 +35,26 @@ valuesOf TooLong = []
 valuesOf (Line k) = k ∷ []
 valuesOf Label = []
 valuesOf Room = []
+
+-- ---- what an answer says
+-- "A refusal returns its number (10 with a line number) and no other result": the value, or the refusal's number and values
+pub data Said (X : Type 0) : Type 0 where
+  gives : X → Said X
+  refuses : ℕ → List ℕ → Said X
+
+-- ---- which refusal is given
+-- a refusal's number, and when it is "given exactly when"
+pub record Test : Type 1 where
+  pub number : ℕ
+  pub applies : Type 0
+
+-- "The lowest number that applies is given, each call testing those that concern it": k is the number of the first of the tests,
+-- which stand in rising order, that applies
+abbrev pub Lowest : List Test → ℕ → Type 0
+Lowest [] k = ⊥
+Lowest (t ∷ ts) k = (t .applies × (k ≡ t .number)) ⊎ ((t .applies → ⊥) × Lowest ts k)
+
+-- none of the tests applies
+abbrev pub Clear : List Test → Type 0
+Clear [] = Unit
+Clear (t ∷ ts) = (t .applies → ⊥) × Clear ts

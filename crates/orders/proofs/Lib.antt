@@ -1,3 +1,5 @@
 pub mod Entries
 pub mod Places
 pub mod Refusals
+pub mod Sweeps
+pub mod Flags

@@ -1,0 +1,3 @@
+pub mod Slack
+pub mod Pulls
+pub mod Descent

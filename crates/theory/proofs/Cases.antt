@@ -13,10 +13,10 @@ use lib.ListN.{length, getD}
 use lib.Signed.{_≤ℤ_, _<ℤ_, leZ, ltZ, leZ-yes, ltZ-yes, ≤ℤ-refl}
 use Rattle.theory.specs.Totals.{total}
 use Rattle.theory.specs.Limits.{order}
-use Rattle.theory.specs.Lists.{nums, ints, flags, columns}
+use Rattle.theory.specs.Lists.{nums, ints, flags, columns, StarList}
 use Rattle.theory.specs.Table.{absent, Present, Order, entry, Entries}
 use Rattle.theory.specs.Canon.{Transversal, raised, Maximum, OfMaxima, Canon, LeastFrom, Heads, Before, Stars, sum, Greatest, Misplaced, exceeded, Solution}
-use Rattle.theory.specs.Cases.{Handed, nothing, additions, stars, Outcome, answer, refusal6, refusal7, refusal8, Case, StarList, Leads, NoCanon, Misplaces, SomeTransversal, Comes, Right, Every, cases}
+use Rattle.theory.specs.Cases.{Handed, nothing, additions, stars, Outcome, answer, refusal6, refusal7, refusal8, Case, Leads, NoCanon, Misplaces, SomeTransversal, Comes, Right, Every, cases}
 use Rattle.theory.proofs.Pigeonhole.{onto}
 use Rattle.theory.proofs.Signed.{signed}
 use Rattle.theory.proofs.Lattice.{sum-same}

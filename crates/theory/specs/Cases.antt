@@ -2,11 +2,11 @@
 -- Absent is written `-`, rows are parted by `/`; stars are columns from 1, as there.
 use mathlib.Core.Path.{_≡_}
 use mathlib.Core.List.{List, [], _∷_, map}
-use Prim.Native.Nat.{ℕ, _*_, _≤_, _<_}
+use Prim.Native.Nat.{ℕ, _*_}
 use lib.IntN.{ℤ, pos, negℤ}
 use lib.ListN.{length}
 use Rattle.theory.specs.Limits.{order}
-use Rattle.theory.specs.Lists.{nums, ints, columns}
+use Rattle.theory.specs.Lists.{nums, ints, columns, StarList}
 use Rattle.theory.specs.Table.{absent, entry, Entries}
 use Rattle.theory.specs.Canon.{Transversal, Canon, Greatest, Misplaced, Solution}
 
@@ -28,13 +28,6 @@ pub record Case : Type 0 where
   pub table : List ℤ
   pub handed : Handed
   pub outcome : Outcome
-
--- the list has a number from 1 to n for each row, none twice
-pub record StarList (n : ℕ) (s : List ℕ) : Type 0 where
-  pub long : length s ≡ n
-  pub from-one : (i : ℕ) → i < n → 1 ≤ nums s i
-  pub to-size : (i : ℕ) → i < n → nums s i ≤ n
-  pub none-twice : (i k : ℕ) → i < n → k < n → nums s i ≡ nums s k → i ≡ k
 
 -- a start that leads to the answer: "Any canon within the stated limit, or any transversal of greatest sum"
 abbrev pub Leads : (n : ℕ) → (ℕ → ℕ → ℤ) → Handed → Type 0

@@ -1,0 +1,91 @@
+ghost use mathlib.Core.Path.{_≡_};
+ghost use Prim.Native.Nat.{ℕ, _+_, _≤_, _<_};
+ghost use lib.IntN.{_+ℤ_};
+ghost use lib.ListN.{length, take};
+ghost use lib.Signed.{mag};
+ghost use Rattle.theory.specs.Limits.{rows};
+ghost use Rattle.theory.specs.Lists.{nums, ints};
+ghost use Rattle.theory.specs.Table.{entry};
+ghost use Rattle.theory.specs.Canon.{Heads, sum};
+ghost use Rattle.orders.specs.Places.{room, Square, Roomy};
+ghost use Rattle.outcome.specs.Whole.{Occupied};
+use orders::ROWS;
+use orders::head;
+use orders::place;
+
+// The heads of all columns.
+fn heads_of(table: &[i16], n: usize, additions: &[u32; ROWS]) -> [i32; ROWS]
+    requires { ⌜ Square (now table) n × Roomy n (now additions) × Occupied n (entry (now table) n) ⌝ }
+    ensures { λ r. ⌜ Heads n (entry (now (table .entry)) n) (nums (now (additions .entry))) (ints r) ⌝ }
+{
+    let mut heads = [0i32; ROWS];
+    let mut j = 0;
+    while j < n {
+        let top = head(table, n, additions, j);
+        let value = top.head;
+        heads[j] = value;
+        j += 1;
+    }
+    heads
+}
+
+// A sum with one more order.
+fn plus(sum: i32, order: i16) -> i32
+    requires { ⌜ mag sum ≤ room ⌝ }
+    ensures { λ r. ⌜ r ≡ sum +ℤ order ⌝ }
+{
+    sum + order as i32
+}
+
+// The total of the starred orders as they stand in the table.
+fn sum_of(table: &[i16], n: usize, columns: &[usize; ROWS]) -> i32
+    requires { ⌜ Square (now table) n × ((i : ℕ) → i < n → nums (now columns) i < n) ⌝ }
+    ensures { λ r. ⌜ r ≡ sum n (entry (now (table .entry)) n) (nums (now (columns .entry))) ⌝ }
+{
+    let mut sum: i32 = 0;
+    let mut i = 0;
+    while i < n {
+        let order = place(table, n, i, columns[i]);
+        sum = plus(sum, order);
+        i += 1;
+    }
+    sum
+}
+
+// The columns of the first n rows, numbered from 1.
+fn numbered(n: usize, columns: &[usize; ROWS]) -> [u32; ROWS]
+    requires { ⌜ (n ≤ rows) × ((i : ℕ) → i < n → nums (now columns) i < n) ⌝ }
+    ensures { λ r. ⌜ ((i : ℕ) → i < n → nums r i ≡ nums (now (columns .entry)) i + 1) ⌝ }
+{
+    let mut stars = [0u32; ROWS];
+    let mut i = 0;
+    while i < n {
+        stars[i] = columns[i] as u32 + 1;
+        i += 1;
+    }
+    stars
+}
+
+// Fixed numbers copied out into a lent slice.
+pub fn copy_u32(from: [u32; ROWS], to: &mut [u32])
+    requires { ⌜ length (now to) ≤ rows ⌝ }
+    ensures { λ _. ⌜ now (to .exit) ≡ take (length (now (to .entry))) from ⌝ }
+{
+    let mut i = 0;
+    while i < to.len() {
+        to[i] = from[i];
+        i += 1;
+    }
+}
+
+pub fn copy_i32(from: [i32; ROWS], to: &mut [i32])
+    requires { ⌜ length (now to) ≤ rows ⌝ }
+    ensures { λ _. ⌜ now (to .exit) ≡ take (length (now (to .entry))) from ⌝ }
+{
+    let mut i = 0;
+    while i < to.len() {
+        let v = from[i];
+        to[i] = v;
+        i += 1;
+    }
+}

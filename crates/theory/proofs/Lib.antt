@@ -7,4 +7,5 @@ pub mod Reach
 pub mod Bounds
 pub mod Search
 pub mod Cases
+pub mod Maxima
 pub mod Exchange

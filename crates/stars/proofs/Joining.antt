@@ -1,0 +1,149 @@
+-- The rows found by the search: the first of them, and one more. Assumes nothing.
+use mathlib.Core.Path.{_≡_, refl, sym, _∙_, ap}
+use mathlib.Core.Logic.{_≢_}
+use mathlib.Core.List.{List}
+use Prim.Native.Nat.{ℕ, _+_, _-_, _≤_, _<_}
+use native.Mathlib.Decide.{ℕ-discrete, decLt}
+use native.Mathlib.Omega.{arith}
+use lib.IntN.{ℤ}
+use lib.ListN.{length, set}
+use lib.Seq.{getD-set-same, getD-set-other}
+use Rattle.theory.specs.Lists.{nums}
+use Rattle.theory.specs.Canon.{Maximum}
+use Rattle.theory.proofs.Pigeonhole.{onto}
+use Rattle.stars.specs.Search.{Found, Grown, ScannedTo}
+
+-- f′ is f with v at k
+pub record Put (f f′ : ℕ → ℕ) (k v : ℕ) : Type 0 where
+  pub here : f′ k ≡ v
+  pub other : (x : ℕ) → x ≢ k → f′ x ≡ f x
+
+-- a store in an array
+pub put : (l : List ℕ) (k v : ℕ) → k < length l → Put (nums l) (nums (set l k v)) k v
+put l k v h = record { here = getD-set-same l k v 0 h; other = λ x ne. getD-set-other l k x v 0 ne }
+
+module _ (n : ℕ) (a : ℕ → ℕ → ℤ) (l : ℕ → ℕ) (i : ℕ) (σ next step queue : ℕ → ℕ) (count : ℕ) (w : Found n a l i σ next step queue count) where
+  -- a row that is not found leaves room in the queue: a queue of n rows, which are apart by their steps, would have it by P1
+  pub queue-room : (k : ℕ) → k < n → step k ≡ 0 → count < n
+  queue-room k hk none = go (decLt count n)
+    where
+      step-of : (p : ℕ) → p < count → step (queue p) ≡ p + 1
+      step-of = w .numbered
+
+      go : Dec (count < n) → count < n
+      go (yes h) = h
+      go (no h) =
+          let r = onto n queue
+          (λ p q hp hq e. omega (arith, step-of p (omega arith), step-of q (omega arith), ap step e))
+          (λ p hp. w .row p (omega arith)) k hk in
+          absurd (omega (arith, step-of (r .0) (omega arith), ap step (r .2)))
+
+  module _ (next′ step′ queue′ : ℕ → ℕ) (k m : ℕ) (hk : k < n) (later : i < k) (none : step k ≡ 0) (hm : m < n) (known : 0 < step m)
+      (tight : Maximum n a l k (σ m)) (pn : Put next next′ k m) (ps : Put step step′ k (count + 1)) (pq : Put queue queue′ count k) where
+    -- a row that was found is not k, and keeps its step
+    not-k : (x : ℕ) → 0 < step x → x ≢ k
+    not-k x h e = omega (arith, ap step e)
+
+    kept : (x : ℕ) → 0 < step x → step′ x ≡ step x
+    kept x h = ps .other x (not-k x h)
+
+    was : (x : ℕ) → x ≢ k → 0 < step′ x → 0 < step x
+    was x ne h = omega (arith, ps .other x ne)
+
+    before : (p : ℕ) → p < count → queue′ p ≡ queue p
+    before p h = pq .other p (omega arith)
+
+    -- what holds of place `count` of the queue and of those before it
+    place : (P : ℕ → ℕ → Type 0) → P count k → ((p : ℕ) → p < count → P p (queue p)) → (p : ℕ) → p < count + 1 → P p (queue′ p)
+    place P new old p h = elim (ℕ-discrete p count) [
+      | yes e ↦ rw (e, pq .here) new
+      | no ne ↦ rw (before p (omega arith)) (old p (omega arith))
+    ]
+
+    -- what holds of row k with its next row m, and of the rows found before
+    each : (P : ℕ → ℕ → ℕ → Type 0) → P k (count + 1) m → ((x : ℕ) → x < n → 0 < step x → x ≢ i → P x (step x) (next x))
+        → (x : ℕ) → x < n → 0 < step′ x → x ≢ i → P x (step′ x) (next′ x)
+    each P new old x hx h ni = elim (ℕ-discrete x k) [
+      | yes e ↦ rw (e, ps .here, pn .here) new
+      | no ne ↦ rw (ps .other x ne, pn .other x ne) (old x hx (was x ne h) ni)
+    ]
+
+    pub found-more : Found n a l i σ next′ step′ queue′ (count + 1)
+    found-more = record {
+      root = rw (kept i (w .root)) (w .root);
+      row = place (λ p x. x < n) hk (w .row);
+      late = place (λ p x. i ≤ x) (omega arith) (w .late);
+      numbered = place (λ p x. step′ x ≡ p + 1) (ps .here) (λ p h. kept (queue p) (omega (arith, w .numbered p h)) ∙ w .numbered p h);
+      counted = λ x hx h. elim (ℕ-discrete x k) [
+        | yes e ↦ rw (e, ps .here) (omega arith)
+        | no ne ↦ rw (ps .other x ne) (omega (arith, w .counted x hx (was x ne h)))
+      ];
+      queued = λ x hx h. elim (ℕ-discrete x k) [
+        | yes e ↦ last x e
+        | no ne ↦ rw (ps .other x ne) (
+            before (step x - 1) (omega (arith, w .counted x hx (was x ne h), was x ne h))
+            ∙ w .queued x hx (was x ne h))
+      ];
+      inside = each (λ x s y. y < n) hm (w .inside);
+      maximum = each (λ x s y. Maximum n a l x (σ y)) tight (w .maximum);
+      found = each (λ x s y. 0 < step′ y) (rw (kept m known) known) (λ x hx h ni. rw (kept (next x) (w .found x hx h ni)) (w .found x hx h ni));
+      nearer = each (λ x s y. step′ y < s)
+          (rw (kept m known) (omega (arith, w .counted m hm known)))
+          (λ x hx h ni. rw (kept (next x) (w .found x hx h ni)) (w .nearer x hx h ni));
+    }
+      where
+        last : (x : ℕ) → x ≡ k → queue′ (step′ x - 1) ≡ x
+        last x e =
+            let s : step′ x - 1 ≡ count = omega (arith, ap step′ e, ps .here) in
+            ap queue′ s ∙ pq .here ∙ sym e
+
+    -- what was found stays as it was
+    pub grown-more : {step₀ queue₀ : ℕ → ℕ} {count₀ : ℕ} → Grown n step₀ queue₀ count₀ step queue count → Grown n step₀ queue₀ count₀ step′ queue′ (count + 1)
+    grown-more g = record {
+      more = omega (arith, g .more);
+      same = λ p h. before p (omega (arith, g .more)) ∙ g .same p h;
+      kept = λ x hx h. rw (kept x (g .kept x hx h)) (g .kept x hx h);
+    }
+
+    -- and row k is found now
+    pub scanned-found : (column : ℕ) → ScannedTo n a l i column step k → ScannedTo n a l i column step′ (k + 1)
+    scanned-found column s x h b t = elim (ℕ-discrete x k) [
+      | yes e ↦ rw (e, ps .here) (omega arith)
+      | no ne ↦ rw (ps .other x ne) (s x h (omega arith) t)
+    ]
+
+-- the next row of a scan, where it is found already or has no maximum in the column
+pub scanned-next : (n : ℕ) (a : ℕ → ℕ → ℤ) (l : ℕ → ℕ) (i column : ℕ) (step : ℕ → ℕ) (k : ℕ) → ScannedTo n a l i column step k
+    → (Maximum n a l k column → 0 < step k) → ScannedTo n a l i column step (k + 1)
+scanned-next n a l i column step k s new x h b t = elim (ℕ-discrete x k) [
+  | yes e ↦ rw e (new (rw e at t))
+  | no ne ↦ s x h (omega arith) t
+]
+
+pub grown-none : (n : ℕ) (step queue : ℕ → ℕ) (count : ℕ) → Grown n step queue count step queue count
+grown-none n step queue count = record { more = omega arith; same = λ p h. refl; kept = λ x hx h. h }
+
+-- row i is found first
+pub found-first : (n : ℕ) (a : ℕ → ℕ → ℤ) (l : ℕ → ℕ) (i : ℕ) (σ next step queue step₀ : ℕ → ℕ) → i < n
+    → ((x : ℕ) → step₀ x ≡ 0) → Put step₀ step i 1 → queue 0 ≡ i → Found n a l i σ next step queue 1
+found-first n a l i σ next step queue step₀ hi zero ps first = record {
+  root = omega (arith, ps .here);
+  row = λ p h. rw (at p h) hi;
+  late = λ p h. rw (at p h) (omega arith);
+  numbered = λ p h. rw (at p h) (omega (arith, ps .here));
+  counted = λ x hx h. omega (arith, ap step (only x h), ps .here);
+  queued = λ x hx h. let s : step x - 1 ≡ 0 = omega (arith, ap step (only x h), ps .here) in ap queue s ∙ first ∙ sym (only x h);
+  inside = λ x hx h ni. absurd (ni (only x h));
+  maximum = λ x hx h ni. absurd (ni (only x h));
+  found = λ x hx h ni. absurd (ni (only x h));
+  nearer = λ x hx h ni. absurd (ni (only x h));
+}
+  where
+    at : (p : ℕ) → p < 1 → queue p ≡ i
+    at p h = let z : p ≡ 0 = omega arith in rw z first
+
+    only : (x : ℕ) → 0 < step x → x ≡ i
+    only x h = elim (ℕ-discrete x i) [
+      | yes e ↦ e
+      | no ne ↦ absurd (omega (arith, ps .other x ne, zero x))
+    ]

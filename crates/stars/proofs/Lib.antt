@@ -1,0 +1,2 @@
+pub mod Tightness
+pub mod Joining

@@ -3,14 +3,14 @@ use mathlib.Core.Path.{_≡_, refl, sym, _∙_, ap}
 use mathlib.Core.Logic.{_≢_}
 use mathlib.Core.List.{List}
 use Prim.Native.Nat.{ℕ, _+_, _-_, _≤_, _<_}
-use native.Mathlib.Decide.{ℕ-discrete, decLt}
+use native.Mathlib.Decide.{ℕ-discrete, decLe, decLt}
 use native.Mathlib.Omega.{arith}
 use lib.IntN.{ℤ}
 use lib.ListN.{length, set}
 use lib.Seq.{getD-set-same, getD-set-other}
 use Rattle.theory.specs.Lists.{nums}
 use Rattle.theory.specs.Canon.{Maximum}
-use Rattle.theory.proofs.Pigeonhole.{onto}
+use Rattle.theory.proofs.Pigeonhole.{onto, crowded}
 use Rattle.stars.specs.Search.{Found, Grown, ScannedTo}
 
 -- f′ is f with v at k
@@ -22,7 +22,7 @@ pub record Put (f f′ : ℕ → ℕ) (k v : ℕ) : Type 0 where
 pub put : (l : List ℕ) (k v : ℕ) → k < length l → Put (nums l) (nums (set l k v)) k v
 put l k v h = record { here = getD-set-same l k v 0 h; other = λ x ne. getD-set-other l k x v 0 ne }
 
-module _ (n : ℕ) (a : ℕ → ℕ → ℤ) (l : ℕ → ℕ) (i : ℕ) (σ next step queue : ℕ → ℕ) (count : ℕ) (w : Found n a l i σ next step queue count) where
+module _ {n : ℕ} {a : ℕ → ℕ → ℤ} {l : ℕ → ℕ} {i : ℕ} {σ next step queue : ℕ → ℕ} {count : ℕ} (w : Found n a l i σ next step queue count) where
   -- a row that is not found leaves room in the queue: a queue of n rows, which are apart by their steps, would have it by P1
   pub queue-room : (k : ℕ) → k < n → step k ≡ 0 → count < n
   queue-room k hk none = go (decLt count n)
@@ -38,7 +38,21 @@ module _ (n : ℕ) (a : ℕ → ℕ → ℤ) (l : ℕ → ℕ) (i : ℕ) (σ nex
           (λ p hp. w .row p (omega arith)) k hk in
           absurd (omega (arith, step-of (r .0) (omega arith), ap step (r .2)))
 
-  module _ (next′ step′ queue′ : ℕ → ℕ) (k m : ℕ) (hk : k < n) (later : i < k) (none : step k ≡ 0) (hm : m < n) (known : 0 < step m)
+  -- no more rows are found than there are
+  pub queue-below : count ≤ n
+  queue-below = go (decLe count n)
+    where
+      step-of : (p : ℕ) → p < count → step (queue p) ≡ p + 1
+      step-of = w .numbered
+
+      go : Dec (count ≤ n) → count ≤ n
+      go (yes h) = h
+      go (no h) =
+          absurd (crowded n queue
+          (λ p q hp hq e. omega (arith, step-of p (omega arith), step-of q (omega arith), ap step e))
+          (λ p hp. w .row p (omega arith)))
+
+  module _ {next′ step′ queue′ : ℕ → ℕ} {k m : ℕ} (hk : k < n) (later : i < k) (none : step k ≡ 0) (hm : m < n) (known : 0 < step m)
       (tight : Maximum n a l k (σ m)) (pn : Put next next′ k m) (ps : Put step step′ k (count + 1)) (pq : Put queue queue′ count k) where
     -- a row that was found is not k, and keeps its step
     not-k : (x : ℕ) → 0 < step x → x ≢ k
@@ -106,8 +120,8 @@ module _ (n : ℕ) (a : ℕ → ℕ → ℤ) (l : ℕ → ℕ) (i : ℕ) (σ nex
     }
 
     -- and row k is found now
-    pub scanned-found : (column : ℕ) → ScannedTo n a l i column step k → ScannedTo n a l i column step′ (k + 1)
-    scanned-found column s x h b t = elim (ℕ-discrete x k) [
+    pub scanned-found : {column : ℕ} → ScannedTo n a l i column step k → ScannedTo n a l i column step′ (k + 1)
+    scanned-found s x h b t = elim (ℕ-discrete x k) [
       | yes e ↦ rw (e, ps .here) (omega arith)
       | no ne ↦ rw (ps .other x ne) (s x h (omega arith) t)
     ]
@@ -125,25 +139,25 @@ grown-none n step queue count = record { more = omega arith; same = λ p h. refl
 
 -- row i is found first
 pub found-first : (n : ℕ) (a : ℕ → ℕ → ℤ) (l : ℕ → ℕ) (i : ℕ) (σ next step queue step₀ : ℕ → ℕ) → i < n
-    → ((x : ℕ) → step₀ x ≡ 0) → Put step₀ step i 1 → queue 0 ≡ i → Found n a l i σ next step queue 1
+    → ((x : ℕ) → x < n → step₀ x ≡ 0) → Put step₀ step i 1 → queue 0 ≡ i → Found n a l i σ next step queue 1
 found-first n a l i σ next step queue step₀ hi zero ps first = record {
   root = omega (arith, ps .here);
   row = λ p h. rw (at p h) hi;
   late = λ p h. rw (at p h) (omega arith);
   numbered = λ p h. rw (at p h) (omega (arith, ps .here));
-  counted = λ x hx h. omega (arith, ap step (only x h), ps .here);
-  queued = λ x hx h. let s : step x - 1 ≡ 0 = omega (arith, ap step (only x h), ps .here) in ap queue s ∙ first ∙ sym (only x h);
-  inside = λ x hx h ni. absurd (ni (only x h));
-  maximum = λ x hx h ni. absurd (ni (only x h));
-  found = λ x hx h ni. absurd (ni (only x h));
-  nearer = λ x hx h ni. absurd (ni (only x h));
+  counted = λ x hx h. omega (arith, ap step (only x hx h), ps .here);
+  queued = λ x hx h. let s : step x - 1 ≡ 0 = omega (arith, ap step (only x hx h), ps .here) in ap queue s ∙ first ∙ sym (only x hx h);
+  inside = λ x hx h ni. absurd (ni (only x hx h));
+  maximum = λ x hx h ni. absurd (ni (only x hx h));
+  found = λ x hx h ni. absurd (ni (only x hx h));
+  nearer = λ x hx h ni. absurd (ni (only x hx h));
 }
   where
     at : (p : ℕ) → p < 1 → queue p ≡ i
     at p h = let z : p ≡ 0 = omega arith in rw z first
 
-    only : (x : ℕ) → 0 < step x → x ≡ i
-    only x h = elim (ℕ-discrete x i) [
+    only : (x : ℕ) → x < n → 0 < step x → x ≡ i
+    only x hx h = elim (ℕ-discrete x i) [
       | yes e ↦ e
-      | no ne ↦ absurd (omega (arith, ps .other x ne, zero x))
+      | no ne ↦ absurd (omega (arith, ps .other x ne, zero x hx))
     ]

@@ -9,7 +9,7 @@ use lib.ListN.{length, set, length-set}
 use Rattle.theory.specs.Lists.{nums}
 use Rattle.theory.specs.Table.{entry}
 use Rattle.theory.specs.Canon.{Maximum}
-use Rattle.stars.specs.Search.{Long, Joined, FoundIn, Scanned, SearchedTo, Searched}
+use Rattle.stars.specs.Search.{Long, Joined, ScannedTo, FoundIn, Scanned, Searched}
 use Rattle.stars.specs.declared.Ways.{Ways}
 use Rattle.stars.proofs.Joining.{Put, put, queue-room, found-more, grown-more, scanned-found, scanned-next, grown-none, found-first}
 
@@ -26,6 +26,11 @@ long-join {w} {r} {k} {m} h j = record {
   step = length-is (w .step) (r .step) k (w .count + 1) (j .step) (h .step);
   queue = length-is (w .queue) (r .queue) (w .count) k (j .queue) (h .queue);
 }
+
+-- the columns of the first `at` rows of the queue are scanned
+pub record SearchedTo (t : List ℤ) (n : ℕ) (l : List ℕ) (i : ℕ) (column-of : List ℕ) (at : ℕ) (w : Ways) : Type 0 where
+  pub ways : FoundIn t n l i column-of w
+  pub scanned : (p : ℕ) → p < at → ScannedTo n (entry t n) (nums l) i (nums column-of (nums (w .queue) p)) (nums (w .step)) n
 
 module _ {t : List ℤ} {n : ℕ} {l : List ℕ} {i : ℕ} {columns : List ℕ} where
   -- a row that is not found leaves room in the queue

@@ -70,11 +70,6 @@ pub record Scanned (t : List ℤ) (n : ℕ) (l : List ℕ) (i : ℕ) (column-of 
   pub grown : Grown n (nums (w .step)) (nums (w .queue)) (w .count) (nums (r .step)) (nums (r .queue)) (r .count)
   pub all : ScannedTo n (entry t n) (nums l) i (nums column-of m) (nums (r .step)) k
 
--- the columns of the first `at` rows of the queue are scanned
-pub record SearchedTo (t : List ℤ) (n : ℕ) (l : List ℕ) (i : ℕ) (column-of : List ℕ) (at : ℕ) (w : Ways) : Type 0 where
-  pub ways : FoundIn t n l i column-of w
-  pub scanned : (p : ℕ) → p < at → ScannedTo n (entry t n) (nums l) i (nums column-of (nums (w .queue) p)) (nums (w .step)) n
-
 -- every row after i from which the column of row i can be reached is found
 pub record Searched (t : List ℤ) (n : ℕ) (l : List ℕ) (i : ℕ) (column-of : List ℕ) (w : Ways) : Type 0 where
   pub ways : FoundIn t n l i column-of w

@@ -6,11 +6,9 @@ use lib.IntN.{ℤ}
 use lib.ListN.{length, set}
 use Rattle.theory.specs.Lists.{nums}
 use Rattle.theory.specs.Table.{entry}
-use Rattle.theory.specs.Canon.{Maximum, OfMaxima}
+use Rattle.theory.specs.Canon.{OfMaxima}
 use Rattle.stars.specs.Given.{Marked}
-use Rattle.stars.specs.Search.{FoundIn}
 use Rattle.stars.specs.declared.Marking.{Marking}
-use Rattle.stars.specs.declared.Ways.{Ways}
 
 -- the marks of a complete transversal of column maxima, as the code holds them
 pub record MarkedIn (t : List ℤ) (n : ℕ) (l : List ℕ) (w : Marking) : Type 0 where
@@ -23,22 +21,6 @@ pub record Swapped (w : Marking) (k m : ℕ) (r : Marking) : Type 0 where
   pub columns : r .columns ≡ set (set (w .columns) k (nums (w .columns) m)) m (nums (w .columns) k)
   pub rows : r .rows ≡ set (set (w .rows) (nums (w .columns) m) k) (nums (w .columns) k) m
 
--- what a shift is given: row i has a maximum in column j, whose row is found
-pub record Way (t : List ℤ) (n : ℕ) (l : List ℕ) (w : Marking) (found : Ways) (i j : ℕ) : Type 0 where
-  pub small : n ≤ 32
-  pub marked : MarkedIn t n l w
-  pub ways : FoundIn t n l i (w .columns) found
-  pub row : i < n
-  pub column : j < n
-  pub maximum : Maximum n (entry t n) (nums l) i j
-  pub start : 0 < nums (found .step) (nums (w .rows) j)
-
--- row i has taken column j, and the rows before it have kept theirs
-pub record Shifted (t : List ℤ) (n : ℕ) (l : List ℕ) (w : Marking) (i j : ℕ) (r : Marking) : Type 0 where
-  pub marked : MarkedIn t n l r
-  pub takes : nums (r .columns) i ≡ j
-  pub before : (x : ℕ) → x < i → nums (r .columns) x ≡ nums (w .columns) x
-
 -- no complete transversal of column maxima that agrees with σ before row i has an earlier column there
 abbrev pub FirstAt : List ℤ → ℕ → List ℕ → (ℕ → ℕ) → ℕ → Type 0
 FirstAt t n l σ i = (τ : ℕ → ℕ) → OfMaxima n (entry t n) (nums l) τ → ((x : ℕ) → x < i → τ x ≡ σ x) → σ i ≤ τ i
@@ -49,7 +31,7 @@ pub record Settled (t : List ℤ) (n : ℕ) (l : List ℕ) (w : Marking) (i : �
   pub before : (x : ℕ) → x < i → nums (r .columns) x ≡ nums (w .columns) x
   pub first : FirstAt t n l (nums (r .columns)) i
 
--- exactly the rows from i on are eligible
+-- every row from i on is eligible (that no other is only saves time)
 pub record Later (n i : ℕ) (eligible : List ℕ) : Type 0 where
   pub long : length eligible ≡ 32
   pub late : (k : ℕ) → k < n → i ≤ k → 0 < nums eligible k

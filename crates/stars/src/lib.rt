@@ -183,7 +183,6 @@ fn moved(
     let columns = marks.columns;
     let ways = searched(table, n, additions, heads, &columns, i);
     let step = ways.step;
-    let next = ways.next;
     let j = least(table, n, additions, heads, &rows, &step, i, columns[i]);
     let mut shifted = marks;
     let mut k = i;
@@ -191,7 +190,7 @@ fn moved(
     while m != i {
         shifted = swapped(shifted, k, m);
         k = m;
-        m = next[m];
+        m = ways.next[m];
     }
     shifted
 }

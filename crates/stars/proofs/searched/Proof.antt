@@ -4,9 +4,8 @@ use Prim.Native.Nat.{ℕ, _+_, _-_, _≤_, _<_}
 use native.Mathlib.Omega.{arith}
 use lib.ListN.{getD-replicate}
 use Rattle.theory.specs.Lists.{nums}
-use Rattle.stars.specs.Search.{SearchedTo}
 use Rattle.stars.proofs.Joining.{queue-below}
-use Rattle.stars.proofs.Scanning.{search-start, search-row, search-next, search-end}
+use Rattle.stars.proofs.Scanning.{SearchedTo, search-start, search-row, search-next, search-end}
 use Rattle.stars.proofs.searched.Statement.{statement}
 use Rattle.stars.proofs.searched.Tie as tie
 use Rattle.stars.proofs.searched.Reads as reads

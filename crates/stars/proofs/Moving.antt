@@ -1,18 +1,18 @@
 -- A row comes to its first column, over the lists of the code. Assumes nothing.
-use mathlib.Core.Path.{_≡_, refl, sym, _∙_, ap}
+use mathlib.Core.Path.{_≡_, refl, _∙_}
 use mathlib.Core.Logic.{_≢_}
 use mathlib.Core.List.{List}
-use Prim.Native.Nat.{ℕ, _+_, _-_, _≤_, _<_}
+use Prim.Native.Nat.{ℕ, _-_, _≤_, _<_}
 use native.Mathlib.Decide.{decLt}
 use native.Mathlib.Omega.{arith}
 use lib.IntN.{ℤ}
 use lib.ListN.{length}
 use Rattle.theory.specs.Lists.{nums}
 use Rattle.theory.specs.Table.{entry}
-use Rattle.theory.specs.Canon.{Maximum, OfMaxima}
+use Rattle.theory.specs.Canon.{Maximum}
 use Rattle.theory.proofs.Exchange.{exchange}
 use Rattle.stars.specs.Search.{Least, Searched}
-use Rattle.stars.specs.Shift.{MarkedIn, Swapped, FirstAt, Settled, Later}
+use Rattle.stars.specs.Shift.{MarkedIn, Swapped, Settled, Later}
 use Rattle.stars.specs.declared.Marking.{Marking}
 use Rattle.stars.specs.declared.Ways.{Ways}
 use Rattle.stars.proofs.Swapping.{swap-stores, swap-long-rows, swap-long-columns}

@@ -1,16 +1,15 @@
 -- One row after the other comes to its first column, and then the transversal is the first. Assumes nothing.
-use mathlib.Core.Path.{_≡_, refl, sym, _∙_, ap}
+use mathlib.Core.Path.{refl, _∙_}
 use mathlib.Core.List.{List}
 use Prim.Native.Nat.{ℕ, _+_, _≤_, _<_}
 use native.Mathlib.Decide.{ℕ-discrete}
 use native.Mathlib.Omega.{arith}
 use lib.IntN.{ℤ}
-use lib.ListN.{length, set, length-set, replicate, getD-replicate}
+use lib.ListN.{set, length-set, replicate, getD-replicate}
 use lib.Seq.{getD-set-other}
 use Rattle.theory.specs.Lists.{nums}
 use Rattle.theory.specs.Table.{entry}
 use Rattle.theory.specs.Canon.{Stars}
-use Rattle.stars.specs.Given.{Marked}
 use Rattle.stars.specs.Shift.{MarkedIn, FirstAt, Settled, Later}
 use Rattle.stars.specs.declared.Marking.{Marking}
 

@@ -1,14 +1,10 @@
 -- The marks are shifted along the way from the column that row i takes to the column that it had. Assumes nothing.
 use mathlib.Core.Path.{_≡_, refl, sym, _∙_, ap}
 use mathlib.Core.Logic.{_≢_}
-use mathlib.Core.List.{List}
-use Prim.Native.Nat.{ℕ, _+_, _-_, _≤_, _<_}
-use native.Mathlib.Decide.{ℕ-discrete, decLt}
+use Prim.Native.Nat.{ℕ, _-_, _≤_, _<_}
+use native.Mathlib.Decide.{ℕ-discrete}
 use native.Mathlib.Omega.{arith}
 use lib.IntN.{ℤ}
-use lib.ListN.{length, set, length-set}
-use Rattle.theory.specs.Lists.{nums}
-use Rattle.theory.specs.Table.{entry}
 use Rattle.theory.specs.Canon.{Maximum, OfMaxima}
 use Rattle.orders.specs.Places.{Marks}
 use Rattle.stars.specs.Search.{Found}

@@ -1,6 +1,6 @@
 -- What the way to the first stars is given.
 use mathlib.Core.List.{List}
-use Prim.Native.Nat.{ℕ, _<_}
+use Prim.Native.Nat.{ℕ}
 use lib.IntN.{ℤ}
 use Rattle.theory.specs.Lists.{nums, ints}
 use Rattle.theory.specs.Table.{entry}

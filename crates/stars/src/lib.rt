@@ -1,5 +1,4 @@
-ghost use mathlib.Core.Path.{_≡_};
-ghost use Prim.Native.Nat.{ℕ, _≤_, _<_};
+ghost use Prim.Native.Nat.{ℕ, _<_};
 ghost use Rattle.theory.specs.Lists.{nums};
 ghost use Rattle.theory.specs.Table.{entry};
 ghost use Rattle.theory.specs.Canon.{Maximum, Stars};

@@ -1,8 +1,8 @@
 -- A present place is a column maximum exactly when its raised order is the column's head. Assumes nothing.
-use mathlib.Core.Path.{_≡_, sym, _∙_}
+use mathlib.Core.Path.{_≡_, _∙_}
 use Prim.Native.Nat.{ℕ, _<_}
 use native.Mathlib.Omega.{arith}
-use lib.IntN.{ℤ, pos, _+ℤ_}
+use lib.IntN.{ℤ}
 use Rattle.theory.specs.Table.{Present}
 use Rattle.theory.specs.Canon.{Maximum, Head, raised}
 use Rattle.theory.proofs.Signed.{signed}

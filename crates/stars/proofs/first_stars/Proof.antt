@@ -1,13 +1,10 @@
 -- The rows are settled one after the other. Assumes nothing.
-use Prim.Native.Nat.{ℕ, _-_}
+use Prim.Native.Nat.{_-_}
 use native.Mathlib.Omega.{arith}
 use borrow.Author.Needs.{needs}
 use Rattle.stars.proofs.Progress.{Progress, progress-start, progress-next, progress-end}
 use Rattle.stars.proofs.first_stars.Statement.{statement}
 use Rattle.stars.proofs.first_stars.Tie as tie
-use Rattle.stars.proofs.first_stars.Reads as reads
-use Rattle.stars.proofs.first_stars.Lts as lts
-use Rattle.stars.proofs.settled.Reads as settled-reads
 
 abbrev Inv-loop : tie.InvT-loop
 Inv-loop n table additions heads marks₀ later₀ i₀ marks later i = Progress table n additions marks later i

@@ -1,18 +1,13 @@
 -- The least column of a row that is a maximum and belongs to an eligible row: the columns are tried from the first. Assumes nothing.
-use mathlib.Core.Path.{_≡_}
 use mathlib.Core.Logic.{inl, inr}
 use Prim.Native.Nat.{ℕ, _-_, _≤_, _<_}
 use native.Mathlib.Omega.{arith}
 use borrow.Author.Count.{below-more}
-use borrow.Author.Needs.{needs}
 use Rattle.theory.specs.Lists.{nums}
 use Rattle.theory.specs.Table.{entry}
 use Rattle.theory.specs.Canon.{Maximum}
 use Rattle.stars.proofs.least.Statement.{statement}
 use Rattle.stars.proofs.least.Tie as tie
-use Rattle.stars.proofs.least.Reads as reads
-use Rattle.stars.proofs.least.Lts as lts
-use Rattle.stars.proofs.tight.Reads as tight-reads
 
 abbrev Inv-loop : tie.InvT-loop
 Inv-loop table n additions heads rows eligible i own j₀ j =

@@ -1,16 +1,9 @@
 -- Row i takes the first column that the rows before it leave to it, and the marks are shifted along the way. Assumes nothing.
-use mathlib.Core.Path.{_≡_}
-use Prim.Native.Nat.{ℕ, _≤_, _<_}
 use native.Mathlib.Omega.{arith}
 use Rattle.theory.specs.Lists.{nums}
 use Rattle.stars.proofs.Moving.{ShiftingIn, chosen-below, move-start, move-less, move-next, move-end}
 use Rattle.stars.proofs.moved.Statement.{statement}
 use Rattle.stars.proofs.moved.Tie as tie
-use Rattle.stars.proofs.moved.Reads as reads
-use Rattle.stars.proofs.moved.Lts as lts
-use Rattle.stars.proofs.least.Reads as least-reads
-use Rattle.stars.proofs.searched.Reads as searched-reads
-use Rattle.stars.proofs.swapped.Reads as swapped-reads
 
 abbrev Inv-loop : tie.InvT-loop
 Inv-loop table n additions heads i ways j shifted₀ k₀ m₀ shifted k m = ShiftingIn table n additions i j shifted₀ ways shifted k m

@@ -1,18 +1,12 @@
 -- The rows after i are tried in the column of row m, one after the other. Assumes nothing.
 use mathlib.Core.Path.{_≡_}
 use mathlib.Core.Logic.{inl, inr}
-use Prim.Native.Nat.{ℕ, _+_, _-_, _≤_, _<_}
+use Prim.Native.Nat.{_-_, _≤_, _<_}
 use native.Mathlib.Omega.{arith}
-use borrow.Author.Needs.{needs}
-use Rattle.theory.specs.Lists.{nums}
 use Rattle.stars.specs.Search.{Scanned}
 use Rattle.stars.proofs.Scanning.{join-room, scan-start, scan-next, scan-join}
 use Rattle.stars.proofs.scanned.Statement.{statement}
 use Rattle.stars.proofs.scanned.Tie as tie
-use Rattle.stars.proofs.scanned.Reads as reads
-use Rattle.stars.proofs.scanned.Lts as lts
-use Rattle.stars.proofs.joined.Reads as joined-reads
-use Rattle.stars.proofs.tight.Reads as tight-reads
 
 abbrev Inv-loop : tie.InvT-loop
 Inv-loop table n additions heads columns i m column found₀ k₀ found k = (i < k) × (k ≤ n) × Scanned table n additions i columns m k found₀ found

@@ -1,17 +1,12 @@
 -- The columns of the rows in the queue are scanned one after the other, until none is left. Assumes nothing.
-use mathlib.Core.Path.{_≡_, refl}
-use Prim.Native.Nat.{ℕ, _+_, _-_, _≤_, _<_}
+use mathlib.Core.Path.{refl}
+use Prim.Native.Nat.{_-_}
 use native.Mathlib.Omega.{arith}
 use lib.ListN.{getD-replicate}
-use Rattle.theory.specs.Lists.{nums}
 use Rattle.stars.proofs.Joining.{queue-below}
 use Rattle.stars.proofs.Scanning.{SearchedTo, search-start, search-row, search-next, search-end}
 use Rattle.stars.proofs.searched.Statement.{statement}
 use Rattle.stars.proofs.searched.Tie as tie
-use Rattle.stars.proofs.searched.Reads as reads
-use Rattle.stars.proofs.searched.Lts as lts
-use Rattle.stars.proofs.joined.Reads as joined-reads
-use Rattle.stars.proofs.scanned.Reads as scanned-reads
 
 abbrev Inv-loop : tie.InvT-loop
 Inv-loop table n additions heads columns i ways₀ at₀ ways at = SearchedTo table n additions i columns at ways

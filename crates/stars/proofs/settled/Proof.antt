@@ -3,10 +3,6 @@ use borrow.Author.Needs.{needs}
 use Rattle.stars.proofs.Moving.{settled-so}
 use Rattle.stars.proofs.settled.Statement.{statement}
 use Rattle.stars.proofs.settled.Tie as tie
-use Rattle.stars.proofs.settled.Reads as reads
-use Rattle.stars.proofs.settled.Lts as lts
-use Rattle.stars.proofs.least.Reads as least-reads
-use Rattle.stars.proofs.moved.Reads as moved-reads
 
 mul-own : tie.Need-mul-own
 mul-own c = search needs

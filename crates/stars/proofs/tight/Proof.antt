@@ -1,20 +1,12 @@
 -- A place is tested for a column maximum. Assumes nothing.
-use mathlib.Core.Path.{_≡_, sym, _∙_, ap}
-use Prim.Native.Nat.{ℕ}
+use mathlib.Core.Path.{sym, _∙_}
 use borrow.Author.Needs.{needs, sfits-of}
-use lib.IntN.{ℤ, pos, _+ℤ_}
 use mir.Syntax.{w16}
 use mir.Facts.{toZ-ofZ}
-use Rattle.theory.specs.Lists.{nums}
-use Rattle.theory.specs.Table.{entry}
 use Rattle.orders.proofs.Entries.{absent-bits, present-bits}
 use Rattle.stars.proofs.Tightness.{tight-absent, tight-present}
 use Rattle.stars.proofs.tight.Statement.{statement}
 use Rattle.stars.proofs.tight.Tie as tie
-use Rattle.stars.proofs.tight.Reads as reads
-use Rattle.stars.proofs.tight.Lts as lts
-use Rattle.orders.proofs.place.Reads as place-reads
-use Rattle.orders.proofs.raise.Reads as raise-reads
 
 place-requires : tie.Need-place-requires
 place-requires c κs = search needs

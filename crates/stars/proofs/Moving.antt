@@ -7,6 +7,7 @@ use native.Mathlib.Decide.{decLt}
 use native.Mathlib.Omega.{arith}
 use lib.IntN.{ℤ}
 use lib.ListN.{length}
+use Rattle.theory.specs.Limits.{rows}
 use Rattle.theory.specs.Lists.{nums}
 use Rattle.theory.specs.Table.{entry}
 use Rattle.theory.specs.Canon.{Maximum}
@@ -20,8 +21,8 @@ use Rattle.stars.proofs.Shifting.{Shifting, of-marks, not-yet, shift-st
 
 -- the shift of the marks w₀ along the ways has come to row k and the marks w
 pub record ShiftingIn (t : List ℤ) (n : ℕ) (l : List ℕ) (i j : ℕ) (w₀ : Marking) (ways : Ways) (w : Marking) (k m : ℕ) : Type 0 where
-  pub long-rows : length (w .rows) ≡ 32
-  pub long-columns : length (w .columns) ≡ 32
+  pub long-rows : length (w .rows) ≡ rows
+  pub long-columns : length (w .columns) ≡ rows
   pub shift : Shifting n (entry t n) (nums l) i j (nums (w₀ .columns)) (nums (ways .step)) (nums (w .rows)) (nums (w .columns)) k m
 
 -- ---- a row that has no maximum before its own column in the column of a later row is settled as it stands
@@ -38,7 +39,7 @@ settled-so {t} {n} {l} {w} {i} {j} {later} marked late hi b own = record {
 }
 
 -- ---- otherwise the ways are searched and the marks shifted
-module _ {t : List ℤ} {n : ℕ} {l : List ℕ} {i j : ℕ} {w₀ : Marking} {ways : Ways} (small : n ≤ 32) (marked : MarkedIn t n l w₀) (hi : i < n)
+module _ {t : List ℤ} {n : ℕ} {l : List ℕ} {i j : ℕ} {w₀ : Marking} {ways : Ways} (small : n ≤ rows) (marked : MarkedIn t n l w₀) (hi : i < n)
     (s : Searched t n l i (w₀ .columns) ways)
     (b : Least n (entry t n) (nums l) (nums (w₀ .rows)) (nums (ways .step)) i (nums (w₀ .columns) i) j) where
   own : nums (w₀ .columns) i < n

@@ -7,6 +7,7 @@ use native.Mathlib.Omega.{arith}
 use lib.IntN.{ℤ}
 use lib.ListN.{set, length-set, replicate, getD-replicate}
 use lib.Seq.{getD-set-other}
+use Rattle.theory.specs.Limits.{rows}
 use Rattle.theory.specs.Lists.{nums}
 use Rattle.theory.specs.Table.{entry}
 use Rattle.theory.specs.Canon.{Stars}
@@ -21,11 +22,11 @@ pub record Progress (t : List ℤ) (n : ℕ) (l : List ℕ) (w : Marking) (later
   pub first : (x : ℕ) → x < i → FirstAt t n l (nums (w .columns)) x
 
 module _ {t : List ℤ} {n : ℕ} {l : List ℕ} {w : Marking} where
-  pub progress-start : n ≤ 32 → MarkedIn t n l w → Progress t n l w (replicate 32 1) 0
+  pub progress-start : n ≤ rows → MarkedIn t n l w → Progress t n l w (replicate rows 1) 0
   progress-start small marked = record {
     below = omega arith;
     marked = marked;
-    eligible = record { long = refl; late = λ k hk h. omega (arith, getD-replicate {A = ℕ} 32 k 1 0 (omega arith)) };
+    eligible = record { long = refl; late = λ k hk h. omega (arith, getD-replicate {A = ℕ} rows k 1 0 (omega arith)) };
     first = λ x h. absurd (omega arith);
   }
 

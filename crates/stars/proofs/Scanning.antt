@@ -6,6 +6,7 @@ use native.Mathlib.Decide.{ℕ-discrete}
 use native.Mathlib.Omega.{arith}
 use lib.IntN.{ℤ}
 use lib.ListN.{length, set, length-set}
+use Rattle.theory.specs.Limits.{rows}
 use Rattle.theory.specs.Lists.{nums}
 use Rattle.theory.specs.Table.{entry}
 use Rattle.theory.specs.Canon.{Maximum}
@@ -17,7 +18,7 @@ use Rattle.stars.proofs.Joining.{Put, put, queue-room, found-more, grow
 put-is : (l l′ : List ℕ) (k v : ℕ) → l′ ≡ set l k v → k < length l → Put (nums l) (nums l′) k v
 put-is l l′ k v e h = rw e (put l k v h)
 
-length-is : (l l′ : List ℕ) (k v : ℕ) → l′ ≡ set l k v → length l ≡ 32 → length l′ ≡ 32
+length-is : (l l′ : List ℕ) (k v : ℕ) → l′ ≡ set l k v → length l ≡ rows → length l′ ≡ rows
 length-is l l′ k v e h = ap length e ∙ length-set l k v ∙ h
 
 long-join : {w r : Ways} {k m : ℕ} → Long w → Joined w k m r → Long r
@@ -51,7 +52,7 @@ module _ {t : List ℤ} {n : ℕ} {l : List ℕ} {i : ℕ} {columns : List ℕ} 
       all = scanned-next n (entry t n) (nums l) i (nums columns m) (nums (r .step)) k (s .all) new;
     }
 
-    pub scan-join : {r′ : Ways} → n ≤ 32 → k < n → i < k → nums (r .step) k ≡ 0 → m < n → 0 < nums (w .step) m
+    pub scan-join : {r′ : Ways} → n ≤ rows → k < n → i < k → nums (r .step) k ≡ 0 → m < n → 0 < nums (w .step) m
         → Maximum n (entry t n) (nums l) k (nums columns m) → Joined r k m r′ → Scanned t n l i columns m (k + 1) w r′
     scan-join {r′} small hk later none hm known tight j =
         let long = s .ways .long in
@@ -68,7 +69,7 @@ module _ {t : List ℤ} {n : ℕ} {l : List ℕ} {i : ℕ} {columns : List ℕ} 
         }
 
   -- ---- all columns of the queue are scanned
-  pub search-start : {w r : Ways} → n ≤ 32 → i < n → Long w → ((x : ℕ) → x < n → nums (w .step) x ≡ 0) → w .count ≡ 0 → Joined w i i r → SearchedTo t n l i columns 0 r
+  pub search-start : {w r : Ways} → n ≤ rows → i < n → Long w → ((x : ℕ) → x < n → nums (w .step) x ≡ 0) → w .count ≡ 0 → Joined w i i r → SearchedTo t n l i columns 0 r
   search-start {w} {r} small hi long none zero j =
       let ps = put-is (w .step) (r .step) i (w .count + 1) (j .step) (omega (arith, long .step)) in
       let pq = put-is (w .queue) (r .queue) (w .count) i (j .queue) (omega (arith, long .queue)) in

@@ -5,6 +5,7 @@ use mathlib.Core.List.{List}
 use Prim.Native.Nat.{ℕ, _+_, _-_, _≤_, _<_}
 use lib.IntN.{ℤ}
 use lib.ListN.{length, set}
+use Rattle.theory.specs.Limits.{rows}
 use Rattle.theory.specs.Lists.{nums}
 use Rattle.theory.specs.Table.{entry}
 use Rattle.theory.specs.Canon.{Maximum}
@@ -49,9 +50,9 @@ pub record Columns (n i : ℕ) (column-of : List ℕ) : Type 0 where
   pub column : (k : ℕ) → k < n → nums column-of k < n
 
 pub record Long (w : Ways) : Type 0 where
-  pub next : length (w .next) ≡ 32
-  pub step : length (w .step) ≡ 32
-  pub queue : length (w .queue) ≡ 32
+  pub next : length (w .next) ≡ rows
+  pub step : length (w .step) ≡ rows
+  pub queue : length (w .queue) ≡ rows
 
 -- row k has joined, with a step to row m
 pub record Joined (w : Ways) (k m : ℕ) (r : Ways) : Type 0 where

@@ -4,6 +4,7 @@ use mathlib.Core.List.{List}
 use Prim.Native.Nat.{ℕ, _≤_, _<_}
 use lib.IntN.{ℤ}
 use lib.ListN.{length, set}
+use Rattle.theory.specs.Limits.{rows}
 use Rattle.theory.specs.Lists.{nums}
 use Rattle.theory.specs.Table.{entry}
 use Rattle.theory.specs.Canon.{OfMaxima}
@@ -12,8 +13,8 @@ use Rattle.stars.specs.declared.Marking.{Marking}
 
 -- the marks of a complete transversal of column maxima, as the code holds them
 pub record MarkedIn (t : List ℤ) (n : ℕ) (l : List ℕ) (w : Marking) : Type 0 where
-  pub long-rows : length (w .rows) ≡ 32
-  pub long-columns : length (w .columns) ≡ 32
+  pub long-rows : length (w .rows) ≡ rows
+  pub long-columns : length (w .columns) ≡ rows
   pub marked : Marked t n l (w .rows) (w .columns)
 
 -- rows k and m have exchanged their columns
@@ -33,5 +34,5 @@ pub record Settled (t : List ℤ) (n : ℕ) (l : List ℕ) (w : Marking) (i : �
 
 -- every row from i on is eligible (that no other is only saves time)
 pub record Later (n i : ℕ) (eligible : List ℕ) : Type 0 where
-  pub long : length eligible ≡ 32
+  pub long : length eligible ≡ rows
   pub late : (k : ℕ) → k < n → i ≤ k → 0 < nums eligible k

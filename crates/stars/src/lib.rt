@@ -1,4 +1,5 @@
 ghost use Prim.Native.Nat.{ℕ, _<_};
+ghost use Rattle.theory.specs.Limits.{rows};
 ghost use Rattle.theory.specs.Lists.{nums};
 ghost use Rattle.theory.specs.Table.{entry};
 ghost use Rattle.theory.specs.Canon.{Maximum, Stars};
@@ -24,7 +25,8 @@ pub struct Ways {
     pub count: usize,
 }
 
-// Is the place of row i and column j a column maximum? It is when it is present and the raised order is the column's head.
+// Is the place of row i and column j a column maximum? It is when it is present and the raised order is the column's head. The
+// contract rules out an absent place, another row's addition and a test that always says one thing.
 fn tight(
     table: &[i16],
     n: usize,
@@ -43,7 +45,8 @@ fn tight(
     orders::raise(order, additions[i]) == heads[j]
 }
 
-// The least column before `own` in which row i has a maximum and whose marked row is eligible, or else `own`.
+// The least column before `own` in which row i has a maximum and whose marked row is eligible, or else `own`. The contract rules out
+// a column passed over, one that is no maximum and one whose row is not eligible.
 fn least(
     table: &[i16],
     n: usize,
@@ -72,7 +75,7 @@ fn least(
 
 // Row k joins, with a step to row m.
 fn joined(ways: Ways, k: usize, m: usize) -> Ways
-    requires { ⌜ (k < 32) × (ways .count < 32) ⌝ }
+    requires { ⌜ (k < rows) × (ways .count < rows) ⌝ }
     ensures { λ r. ⌜ Joined ways k m r ⌝ }
 {
     let mut next = ways.next;
@@ -90,7 +93,8 @@ fn joined(ways: Ways, k: usize, m: usize) -> Ways
     }
 }
 
-// The rows after i that have a maximum in the column of row m join.
+// The rows after i that have a maximum in the column of row m join. The contract rules out a row left out, a row before i, and a row
+// whose way does not lead on to rows found before it.
 fn scanned(
     table: &[i16],
     n: usize,
@@ -119,6 +123,7 @@ fn scanned(
 }
 
 // The rows from i on from which the column of row i can be reached: the columns of the rows found are scanned one after the other.
+// The contract rules out a search that stops while a column of a row found is not scanned.
 fn searched(
     table: &[i16],
     n: usize,
@@ -148,7 +153,7 @@ fn searched(
 
 // Rows k and m exchange their columns.
 fn swapped(marks: Marking, k: usize, m: usize) -> Marking
-    requires { ⌜ (k < 32) × (m < 32) × (nums (marks .columns) k < 32) × (nums (marks .columns) m < 32) ⌝ }
+    requires { ⌜ (k < rows) × (m < rows) × (nums (marks .columns) k < rows) × (nums (marks .columns) m < rows) ⌝ }
     ensures { λ r. ⌜ Swapped marks k m r ⌝ }
 {
     let mut rows = marks.rows;
@@ -166,7 +171,8 @@ fn swapped(marks: Marking, k: usize, m: usize) -> Marking
 }
 
 // Row i takes the first column that the rows before it leave to it, and the marks are shifted along the way from there to the column
-// that row i had: at each turn row k has that column, and exchanges it for the column of the next row m.
+// that row i had: at each turn row k has that column, and exchanges it for the column of the next row m. The contract rules out
+// moving a row before i, and leaving row i at a column when a transversal of maxima with the same rows before i has an earlier one.
 fn moved(
     table: &[i16],
     n: usize,
@@ -218,7 +224,9 @@ fn settled(
 }
 
 // The columns of the first complete transversal of column maxima, from the marks of any: one row after the other comes to the first
-// column that the rows before it leave to it.
+// column that the rows before it leave to it. Each row costs at most a search of n columns over n rows, all of them O(n³). The
+// contract rules out every answer but the stars: columns that are no transversal or no maxima, and the marks as they came when
+// another transversal of maxima comes before them. Columns are counted from 0.
 pub fn first_stars(
     n: usize,
     table: &[i16],

@@ -3,6 +3,7 @@ use mathlib.Core.Path.{refl}
 use Prim.Native.Nat.{_-_}
 use native.Mathlib.Omega.{arith}
 use lib.ListN.{getD-replicate}
+use Rattle.theory.specs.Limits.{rows}
 use Rattle.stars.proofs.Joining.{queue-below}
 use Rattle.stars.proofs.Scanning.{SearchedTo, search-start, search-row, search-next, search-end}
 use Rattle.stars.proofs.searched.Statement.{statement}
@@ -21,7 +22,7 @@ loop-holds : tie.Need-loop-holds Inv-loop μ-loop
 loop-holds c =
     let p = c .before .pre in
     search-start (p .0 .square .small) (p .1 .row) (record { next = refl; step = refl; queue = refl })
-    (λ x h. getD-replicate 32 x 0 0 (omega (arith, p .0 .square .small))) refl (c .joined .ensures)
+    (λ x h. getD-replicate rows x 0 0 (omega (arith, p .0 .square .small))) refl (c .joined .ensures)
 
 mul-m : tie.Need-mul-m Inv-loop μ-loop
 mul-m c = omega (arith, queue-below (c .before .loop .inv .ways .ways), c .before .before .before .pre .0 .square .small)

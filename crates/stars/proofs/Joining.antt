@@ -23,34 +23,28 @@ pub put : (l : List ℕ) (k v : ℕ) → k < length l → Put (nums l) (nums (se
 put l k v h = record { here = getD-set-same l k v 0 h; other = λ x ne. getD-set-other l k x v 0 ne }
 
 module _ {n : ℕ} {a : ℕ → ℕ → ℤ} {l : ℕ → ℕ} {i : ℕ} {σ next step queue : ℕ → ℕ} {count : ℕ} (w : Found n a l i σ next step queue count) where
-  -- a row that is not found leaves room in the queue: a queue of n rows, which are apart by their steps, would have it by P1
+  -- no row stands in the queue twice, since its step tells its place
+  queue-apart : (p q : ℕ) → p < count → q < count → queue p ≡ queue q → p ≡ q
+  queue-apart p q hp hq e = omega (arith, w .numbered p hp, w .numbered q hq, ap step e)
+
+  -- a row that is not found leaves room in the queue: by the pigeonhole a queue of n rows would have it
   pub queue-room : (k : ℕ) → k < n → step k ≡ 0 → count < n
   queue-room k hk none = go (decLt count n)
     where
-      step-of : (p : ℕ) → p < count → step (queue p) ≡ p + 1
-      step-of = w .numbered
-
       go : Dec (count < n) → count < n
       go (yes h) = h
       go (no h) =
-          let r = onto n queue
-          (λ p q hp hq e. omega (arith, step-of p (omega arith), step-of q (omega arith), ap step e))
-          (λ p hp. w .row p (omega arith)) k hk in
-          absurd (omega (arith, step-of (r .0) (omega arith), ap step (r .2)))
+          let r = onto n queue (λ p q hp hq e. queue-apart p q (omega arith) (omega arith) e) (λ p hp. w .row p (omega arith)) k hk in
+          absurd (omega (arith, w .numbered (r .0) (omega arith), ap step (r .2)))
 
   -- no more rows are found than there are
   pub queue-below : count ≤ n
   queue-below = go (decLe count n)
     where
-      step-of : (p : ℕ) → p < count → step (queue p) ≡ p + 1
-      step-of = w .numbered
-
       go : Dec (count ≤ n) → count ≤ n
       go (yes h) = h
       go (no h) =
-          absurd (crowded n queue
-          (λ p q hp hq e. omega (arith, step-of p (omega arith), step-of q (omega arith), ap step e))
-          (λ p hp. w .row p (omega arith)))
+          absurd (crowded n queue (λ p q hp hq e. queue-apart p q (omega arith) (omega arith) e) (λ p hp. w .row p (omega arith)))
 
   module _ {next′ step′ queue′ : ℕ → ℕ} {k m : ℕ} (hk : k < n) (later : i < k) (none : step k ≡ 0) (hm : m < n) (known : 0 < step m)
       (tight : Maximum n a l k (σ m)) (pn : Put next next′ k m) (ps : Put step step′ k (count + 1)) (pq : Put queue queue′ count k) where
@@ -82,6 +76,8 @@ module _ {n : ℕ} {a : ℕ → ℕ → ℤ} {l : ℕ → ℕ} {i : ℕ} {σ nex
       | no ne ↦ rw (ps .other x ne, pn .other x ne) (old x hx (was x ne h) ni)
     ]
 
+    -- One more row is found: row k, with a maximum in the column of row m, joins at the end of the queue. Rows found before keep their
+    -- steps and their next rows, and m's step is below k's, which is the greatest.
     pub found-more : Found n a l i σ next′ step′ queue′ (count + 1)
     found-more = record {
       root = rw (kept i (w .root)) (w .root);

@@ -68,6 +68,9 @@ module _ {n : ℕ} {a : ℕ → ℕ → ℤ} {l : ℕ → ℕ} {i j : ℕ} {σ�
       pub shift-less : step (next m) < step m
       shift-less = ways .nearer m (s .goal) (s .found) on
 
+      -- Rows k and m exchange their columns: k stands at a maximum now, m has the column that row i had and is to take that of its next
+      -- row, which was found before it. The rows found no later than that one are neither k nor m, so they still have their columns:
+      -- k is row i or has lost its own, and m was found later.
       pub shift-next : {ρ′ σ′ : ℕ → ℕ} → Swap ρ σ ρ′ σ′ k m → Shifting n a l i j σ₀ step ρ′ σ′ m (next m)
       shift-next {ρ′} {σ′} swap = record {
         marks = swap-marks (s .marks) swap (s .row) (s .goal);

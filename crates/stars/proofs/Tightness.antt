@@ -12,7 +12,7 @@ use mir.Facts.{toZ-ofZ}
 use Rattle.theory.specs.Lists.{nums, ints}
 use Rattle.theory.specs.Table.{absent, Present, entry}
 use Rattle.theory.specs.Canon.{Maximum}
-use Rattle.theory.proofs.Maxima.{maximum-of-head, head-of-maximum}
+use Rattle.theory.proofs.Duality.{maximum-head, head-maximum}
 use Rattle.orders.specs.Tested.{Tells}
 use Rattle.orders.proofs.Entries.{tells-no}
 use Rattle.stars.specs.Given.{Given}
@@ -29,6 +29,6 @@ module _ {t : List ℤ} {n : ℕ} {l : List ℕ} {h : List ℤ} (given : Given t
       → Tells (eqb (ofZ w32 x) (ofZ w32 (ints h j))) (Maximum n (entry t n) (nums l) i j)
   tight-present x p e f g =
       record {
-        holds = λ same. maximum-of-head n (entry t n) (nums l) i j (given .heads j hj) p (sym e ∙ bits-same f g (eqb-true _ _ same));
-        fails = λ other m. eqb-false _ _ other (ap (ofZ w32) (e ∙ head-of-maximum n (entry t n) (nums l) i j (given .heads j hj) hi m));
+        holds = λ same. head-maximum n (entry t n) (given .heads j hj) p (sym e ∙ bits-same f g (eqb-true _ _ same));
+        fails = λ other m. eqb-false _ _ other (ap (ofZ w32) (e ∙ maximum-head n (entry t n) (given .heads j hj) hi m));
       }

@@ -7,5 +7,4 @@ pub mod Reach
 pub mod Bounds
 pub mod Search
 pub mod Cases
-pub mod Maxima
 pub mod Exchange

@@ -7,3 +7,4 @@ pub mod Reach
 pub mod Bounds
 pub mod Search
 pub mod Cases
+pub mod Exchange

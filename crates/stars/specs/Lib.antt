@@ -1,0 +1,4 @@
+-- What the contracts of this crate cite.
+pub mod Given
+pub mod Search
+pub mod Shift

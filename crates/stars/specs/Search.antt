@@ -1,0 +1,77 @@
+-- What the search for the rows from which a row's column can be reached has found. `0 < step k` says that row k is found.
+use mathlib.Core.Path.{_≡_}
+use mathlib.Core.Logic.{_≢_}
+use mathlib.Core.List.{List}
+use Prim.Native.Nat.{ℕ, _+_, _-_, _≤_, _<_}
+use lib.IntN.{ℤ}
+use lib.ListN.{length, set}
+use Rattle.theory.specs.Limits.{rows}
+use Rattle.theory.specs.Lists.{nums}
+use Rattle.theory.specs.Table.{entry}
+use Rattle.theory.specs.Canon.{Maximum}
+use Rattle.stars.specs.declared.Ways.{Ways}
+
+module _ (n : ℕ) (a : ℕ → ℕ → ℤ) (l : ℕ → ℕ) where
+  -- r is the least column before `own` in which row i has a maximum and whose marked row is eligible, or else `own`
+  pub record Least (row-of eligible : ℕ → ℕ) (i own r : ℕ) : Type 0 where
+    pub within : r ≤ own
+    pub maximum : r < own → Maximum n a l i r
+    pub eligible-row : r < own → 0 < eligible (row-of r)
+    pub none : (j : ℕ) → j < r → Maximum n a l i j → 0 < eligible (row-of j) → ⊥
+
+  -- The rows found so far, row i among them, stand in the queue in the order of their steps; each but row i has a maximum in the
+  -- column of the row `next` that it goes on to, which was found before it.
+  pub record Found (i : ℕ) (column-of next step queue : ℕ → ℕ) (count : ℕ) : Type 0 where
+    pub root : 0 < step i
+    pub row : (p : ℕ) → p < count → queue p < n
+    pub late : (p : ℕ) → p < count → i ≤ queue p
+    pub numbered : (p : ℕ) → p < count → step (queue p) ≡ p + 1
+    pub counted : (k : ℕ) → k < n → 0 < step k → step k ≤ count
+    pub queued : (k : ℕ) → k < n → 0 < step k → queue (step k - 1) ≡ k
+    pub inside : (k : ℕ) → k < n → 0 < step k → k ≢ i → next k < n
+    pub maximum : (k : ℕ) → k < n → 0 < step k → k ≢ i → Maximum n a l k (column-of (next k))
+    pub found : (k : ℕ) → k < n → 0 < step k → k ≢ i → 0 < step (next k)
+    pub nearer : (k : ℕ) → k < n → 0 < step k → k ≢ i → step (next k) < step k
+
+  -- the rows after i and before k that have a maximum in the column are found
+  abbrev pub ScannedTo : (i column : ℕ) (step : ℕ → ℕ) (k : ℕ) → Type 0
+  ScannedTo i column step k = (x : ℕ) → i < x → x < k → Maximum n a l x column → 0 < step x
+
+-- what was found stays as it was
+pub record Grown (n : ℕ) (step queue : ℕ → ℕ) (count : ℕ) (step′ queue′ : ℕ → ℕ) (count′ : ℕ) : Type 0 where
+  pub more : count ≤ count′
+  pub same : (p : ℕ) → p < count → queue′ p ≡ queue p
+  pub kept : (k : ℕ) → k < n → 0 < step k → 0 < step′ k
+
+-- ---- the same of the lists of the code
+-- what a search from row i is given besides the table: the columns of the rows
+pub record Columns (n i : ℕ) (column-of : List ℕ) : Type 0 where
+  pub row : i < n
+  pub column : (k : ℕ) → k < n → nums column-of k < n
+
+pub record Long (w : Ways) : Type 0 where
+  pub next : length (w .next) ≡ rows
+  pub step : length (w .step) ≡ rows
+  pub queue : length (w .queue) ≡ rows
+
+-- row k has joined, with a step to row m
+pub record Joined (w : Ways) (k m : ℕ) (r : Ways) : Type 0 where
+  pub next : r .next ≡ set (w .next) k m
+  pub step : r .step ≡ set (w .step) k (w .count + 1)
+  pub queue : r .queue ≡ set (w .queue) (w .count) k
+  pub count : r .count ≡ w .count + 1
+
+pub record FoundIn (t : List ℤ) (n : ℕ) (l : List ℕ) (i : ℕ) (column-of : List ℕ) (w : Ways) : Type 0 where
+  pub long : Long w
+  pub ways : Found n (entry t n) (nums l) i (nums column-of) (nums (w .next)) (nums (w .step)) (nums (w .queue)) (w .count)
+
+-- more rows are found, and all rows before k that have a maximum in the column of row m
+pub record Scanned (t : List ℤ) (n : ℕ) (l : List ℕ) (i : ℕ) (column-of : List ℕ) (m k : ℕ) (w r : Ways) : Type 0 where
+  pub ways : FoundIn t n l i column-of r
+  pub grown : Grown n (nums (w .step)) (nums (w .queue)) (w .count) (nums (r .step)) (nums (r .queue)) (r .count)
+  pub all : ScannedTo n (entry t n) (nums l) i (nums column-of m) (nums (r .step)) k
+
+-- every row after i from which the column of row i can be reached is found
+pub record Searched (t : List ℤ) (n : ℕ) (l : List ℕ) (i : ℕ) (column-of : List ℕ) (w : Ways) : Type 0 where
+  pub ways : FoundIn t n l i column-of w
+  pub all : (m : ℕ) → m < n → 0 < nums (w .step) m → ScannedTo n (entry t n) (nums l) i (nums column-of m) (nums (w .step)) n

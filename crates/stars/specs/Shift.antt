@@ -1,0 +1,38 @@
+-- What a shift of the marks does.
+use mathlib.Core.Path.{_≡_}
+use mathlib.Core.List.{List}
+use Prim.Native.Nat.{ℕ, _≤_, _<_}
+use lib.IntN.{ℤ}
+use lib.ListN.{length, set}
+use Rattle.theory.specs.Limits.{rows}
+use Rattle.theory.specs.Lists.{nums}
+use Rattle.theory.specs.Table.{entry}
+use Rattle.theory.specs.Canon.{OfMaxima}
+use Rattle.stars.specs.Given.{Marked}
+use Rattle.stars.specs.declared.Marking.{Marking}
+
+-- the marks of a complete transversal of column maxima, as the code holds them
+pub record MarkedIn (t : List ℤ) (n : ℕ) (l : List ℕ) (w : Marking) : Type 0 where
+  pub long-rows : length (w .rows) ≡ rows
+  pub long-columns : length (w .columns) ≡ rows
+  pub marked : Marked t n l (w .rows) (w .columns)
+
+-- rows k and m have exchanged their columns
+pub record Swapped (w : Marking) (k m : ℕ) (r : Marking) : Type 0 where
+  pub columns : r .columns ≡ set (set (w .columns) k (nums (w .columns) m)) m (nums (w .columns) k)
+  pub rows : r .rows ≡ set (set (w .rows) (nums (w .columns) m) k) (nums (w .columns) k) m
+
+-- no complete transversal of column maxima that agrees with σ before row i has an earlier column there
+abbrev pub FirstAt : List ℤ → ℕ → List ℕ → (ℕ → ℕ) → ℕ → Type 0
+FirstAt t n l σ i = (τ : ℕ → ℕ) → OfMaxima n (entry t n) (nums l) τ → ((x : ℕ) → x < i → τ x ≡ σ x) → σ i ≤ τ i
+
+-- row i has come to its first column, and the rows before it have kept theirs
+pub record Settled (t : List ℤ) (n : ℕ) (l : List ℕ) (w : Marking) (i : ℕ) (r : Marking) : Type 0 where
+  pub marked : MarkedIn t n l r
+  pub before : (x : ℕ) → x < i → nums (r .columns) x ≡ nums (w .columns) x
+  pub first : FirstAt t n l (nums (r .columns)) i
+
+-- every row from i on is eligible (that no other is only saves time)
+pub record Later (n i : ℕ) (eligible : List ℕ) : Type 0 where
+  pub long : length eligible ≡ rows
+  pub late : (k : ℕ) → k < n → i ≤ k → 0 < nums eligible k

@@ -1,0 +1,253 @@
+ghost use Prim.Native.Nat.{ℕ, _<_};
+ghost use Rattle.theory.specs.Limits.{rows};
+ghost use Rattle.theory.specs.Lists.{nums};
+ghost use Rattle.theory.specs.Table.{entry};
+ghost use Rattle.theory.specs.Canon.{Maximum, Stars};
+ghost use Rattle.orders.specs.Tested.{Tells};
+ghost use Rattle.stars.specs.Given.{Given, Ready};
+ghost use Rattle.stars.specs.Search.{Least, Columns, Joined, FoundIn, Scanned, Searched};
+ghost use Rattle.stars.specs.Shift.{MarkedIn, Swapped, Settled, Later};
+use orders::ABSENT;
+use orders::ROWS;
+
+// The marks of a complete transversal: the row of each column and the column of each row.
+pub struct Marking {
+    pub rows: [usize; ROWS],
+    pub columns: [usize; ROWS],
+}
+
+// The rows from which the column of one row can be reached by column maxima, as they were found: the row itself is queue[0], row
+// queue[p] has step p + 1 and goes on to the column of row next, which was found before it. A row that was not found has step 0.
+pub struct Ways {
+    pub next: [usize; ROWS],
+    pub step: [usize; ROWS],
+    pub queue: [usize; ROWS],
+    pub count: usize,
+}
+
+// Is the place of row i and column j a column maximum? It is when it is present and the raised order is the column's head. The
+// contract rules out an absent place, another row's addition and a test that always says one thing.
+fn tight(
+    table: &[i16],
+    n: usize,
+    additions: &[u32; ROWS],
+    heads: &[i32; ROWS],
+    i: usize,
+    j: usize,
+) -> bool
+    requires { ⌜ Given (now table) n (now additions) (now heads) × (i < n) × (j < n) ⌝ }
+    ensures { λ r. ⌜ Tells r (Maximum n (entry (now (table .entry)) n) (nums (now (additions .entry))) i j) ⌝ }
+{
+    let order = orders::place(table, n, i, j);
+    if order == ABSENT {
+        return false;
+    }
+    orders::raise(order, additions[i]) == heads[j]
+}
+
+// The least column before `own` in which row i has a maximum and whose marked row is eligible, or else `own`. The contract rules out
+// a column passed over, one that is no maximum and one whose row is not eligible.
+fn least(
+    table: &[i16],
+    n: usize,
+    additions: &[u32; ROWS],
+    heads: &[i32; ROWS],
+    rows: &[usize; ROWS],
+    eligible: &[usize; ROWS],
+    i: usize,
+    own: usize,
+) -> usize
+    requires { ⌜ Given (now table) n (now additions) (now heads) × (i < n) × (own < n) × ((j : ℕ) → j < n → nums (now rows) j < n) ⌝ }
+    ensures { λ r. ⌜ Least n (entry (now (table .entry)) n) (nums (now (additions .entry))) (nums (now (rows .entry))) (nums (now (eligible .entry))) i own r ⌝ }
+{
+    let mut j = 0;
+    while j < own {
+        let row = rows[j];
+        if eligible[row] != 0 {
+            if tight(table, n, additions, heads, i, j) {
+                return j;
+            }
+        }
+        j += 1;
+    }
+    own
+}
+
+// Row k joins, with a step to row m.
+fn joined(ways: Ways, k: usize, m: usize) -> Ways
+    requires { ⌜ (k < rows) × (ways .count < rows) ⌝ }
+    ensures { λ r. ⌜ Joined ways k m r ⌝ }
+{
+    let mut next = ways.next;
+    let mut step = ways.step;
+    let mut queue = ways.queue;
+    let count = ways.count;
+    next[k] = m;
+    step[k] = count + 1;
+    queue[count] = k;
+    Ways {
+        next: next,
+        step: step,
+        queue: queue,
+        count: count + 1,
+    }
+}
+
+// The rows after i that have a maximum in the column of row m join. The contract rules out a row left out, a row before i, and a row
+// whose way does not lead on to rows found before it.
+fn scanned(
+    table: &[i16],
+    n: usize,
+    additions: &[u32; ROWS],
+    heads: &[i32; ROWS],
+    columns: &[usize; ROWS],
+    i: usize,
+    m: usize,
+    ways: Ways,
+) -> Ways
+    requires { ⌜ Given (now table) n (now additions) (now heads) × Columns n i (now columns) × (m < n) × (0 < nums (ways .step) m) × FoundIn (now table) n (now additions) i (now columns) ways ⌝ }
+    ensures { λ r. ⌜ Scanned (now (table .entry)) n (now (additions .entry)) i (now (columns .entry)) m n ways r ⌝ }
+{
+    let column = columns[m];
+    let mut found = ways;
+    let mut k = i + 1;
+    while k < n {
+        if found.step[k] == 0 {
+            if tight(table, n, additions, heads, k, column) {
+                found = joined(found, k, m);
+            }
+        }
+        k += 1;
+    }
+    found
+}
+
+// The rows from i on from which the column of row i can be reached: the columns of the rows found are scanned one after the other.
+// The contract rules out a search that stops while a column of a row found is not scanned.
+fn searched(
+    table: &[i16],
+    n: usize,
+    additions: &[u32; ROWS],
+    heads: &[i32; ROWS],
+    columns: &[usize; ROWS],
+    i: usize,
+) -> Ways
+    requires { ⌜ Given (now table) n (now additions) (now heads) × Columns n i (now columns) ⌝ }
+    ensures { λ r. ⌜ Searched (now (table .entry)) n (now (additions .entry)) i (now (columns .entry)) r ⌝ }
+{
+    let none = Ways {
+        next: [0usize; ROWS],
+        step: [0usize; ROWS],
+        queue: [0usize; ROWS],
+        count: 0,
+    };
+    let mut ways = joined(none, i, i);
+    let mut at = 0;
+    while at < ways.count {
+        let m = ways.queue[at];
+        ways = scanned(table, n, additions, heads, columns, i, m, ways);
+        at += 1;
+    }
+    ways
+}
+
+// Rows k and m exchange their columns.
+fn swapped(marks: Marking, k: usize, m: usize) -> Marking
+    requires { ⌜ (k < rows) × (m < rows) × (nums (marks .columns) k < rows) × (nums (marks .columns) m < rows) ⌝ }
+    ensures { λ r. ⌜ Swapped marks k m r ⌝ }
+{
+    let mut rows = marks.rows;
+    let mut columns = marks.columns;
+    let left = columns[k];
+    let taken = columns[m];
+    columns[k] = taken;
+    columns[m] = left;
+    rows[taken] = k;
+    rows[left] = m;
+    Marking {
+        rows: rows,
+        columns: columns,
+    }
+}
+
+// Row i takes the first column that the rows before it leave to it, and the marks are shifted along the way from there to the column
+// that row i had: at each turn row k has that column, and exchanges it for the column of the next row m. The contract rules out
+// moving a row before i, and leaving row i at a column when a transversal of maxima with the same rows before i has an earlier one.
+fn moved(
+    table: &[i16],
+    n: usize,
+    additions: &[u32; ROWS],
+    heads: &[i32; ROWS],
+    marks: Marking,
+    i: usize,
+) -> Marking
+    requires { ⌜ Given (now table) n (now additions) (now heads) × MarkedIn (now table) n (now additions) marks × (i < n) ⌝ }
+    ensures { λ r. ⌜ Settled (now (table .entry)) n (now (additions .entry)) marks i r ⌝ }
+{
+    let rows = marks.rows;
+    let columns = marks.columns;
+    let ways = searched(table, n, additions, heads, &columns, i);
+    let step = ways.step;
+    let j = least(table, n, additions, heads, &rows, &step, i, columns[i]);
+    let mut shifted = marks;
+    let mut k = i;
+    let mut m = rows[j];
+    while m != i {
+        shifted = swapped(shifted, k, m);
+        k = m;
+        m = ways.next[m];
+    }
+    shifted
+}
+
+// The marks with row i at the first column that the rows before it leave to it. Most rows have it already: no earlier column in
+// which row i has a maximum belongs to a later row, and nothing is searched.
+fn settled(
+    table: &[i16],
+    n: usize,
+    additions: &[u32; ROWS],
+    heads: &[i32; ROWS],
+    marks: Marking,
+    later: &[usize; ROWS],
+    i: usize,
+) -> Marking
+    requires { ⌜ Given (now table) n (now additions) (now heads) × MarkedIn (now table) n (now additions) marks × Later n i (now later) × (i < n) ⌝ }
+    ensures { λ r. ⌜ Settled (now (table .entry)) n (now (additions .entry)) marks i r ⌝ }
+{
+    let rows = marks.rows;
+    let own = marks.columns[i];
+    let j = least(table, n, additions, heads, &rows, later, i, own);
+    if j == own {
+        return marks;
+    }
+    moved(table, n, additions, heads, marks, i)
+}
+
+// The columns of the first complete transversal of column maxima, from the marks of any: one row after the other comes to the first
+// column that the rows before it leave to it. Each row costs at most a search of n columns over n rows, all of them O(n³). The
+// contract rules out every answer but the stars: columns that are no transversal or no maxima, and the marks as they came when
+// another transversal of maxima comes before them. Columns are counted from 0.
+pub fn first_stars(
+    n: usize,
+    table: &[i16],
+    additions: &[u32; ROWS],
+    heads: &[i32; ROWS],
+    row_of: [usize; ROWS],
+    column_of: [usize; ROWS],
+) -> [usize; ROWS]
+    requires { ⌜ Ready (now table) n (now additions) (now heads) «row_of» «column_of» ⌝ }
+    ensures { λ r. ⌜ Stars n (entry (now (table .entry)) n) (nums (now (additions .entry))) (nums r) ⌝ }
+{
+    let mut marks = Marking {
+        rows: row_of,
+        columns: column_of,
+    };
+    let mut later = [1usize; ROWS];
+    let mut i = 0;
+    while i < n {
+        marks = settled(table, n, additions, heads, marks, &later, i);
+        later[i] = 0;
+        i += 1;
+    }
+    marks.columns
+}

@@ -1,0 +1,44 @@
+-- Route 3: "From the table and a transversal of greatest sum". 002 §2: "Datos scilicet terminos transversales summa maxima gaudentes
+-- asteriscis noto, et seriebus horizontalibus tales quantitates addo, ut termini earum stellati maximis in ipsorum seriebus
+-- verticalibus aequentur." The starred order of row i is in column σ i.
+use mathlib.Core.Path.{_≡_}
+use mathlib.Core.Bool.{Bool, true, false}
+use mathlib.Core.List.{List}
+use mathlib.Core.Logic.{_⊎_}
+use Prim.Native.Nat.{ℕ, _+_, _*_, _≤_, _<_}
+use lib.IntN.{ℤ, pos, _+ℤ_}
+use lib.Signed.{_≤ℤ_}
+use Rattle.theory.specs.Lists.{nums}
+use Rattle.theory.specs.Table.{Present, entry}
+use Rattle.theory.specs.Canon.{raised, OfMaxima, AtLeast, Simplest, Greatest}
+use Rattle.orders.specs.Places.{room, Roomy}
+use Rattle.raising.specs.declared.Raising.{Raising}
+
+-- r is the larger of a height and the order v raised by l, where v is present
+pub record Higher (v : ℤ) (l : ℕ) (height r : ℤ) : Type 0 where
+  pub this : Present v → (v +ℤ pos l) ≤ℤ r
+  pub other : height ≤ℤ r
+  pub one : (r ≡ height) ⊎ (Present v × (r ≡ v +ℤ pos l))
+
+-- the first k rows of a round from the additions l, of a table a whose orders are within the limit: rows are raised and never
+-- lowered; each of the k is raised to what the others had in its column before the round; no row passes a canon's addition; k rows
+-- raise the largest addition by at most 2k limits. `ended` tells whether nothing was changed.
+pub record Round (limit n : ℕ) (a : ℕ → ℕ → ℤ) (σ l : ℕ → ℕ) (k : ℕ) (ended : Bool) (next : ℕ → ℕ) : Type 0 where
+  pub grows : AtLeast n a l next
+  pub reaches : (i x : ℕ) → i < k → x < n → Present (a x (σ i)) → raised n a l x (σ i) ≤ℤ raised n a next i (σ i)
+  pub below : (m : ℕ → ℕ) → OfMaxima n a m σ → AtLeast n a l m → AtLeast n a next m
+  pub near : (b : ℕ) → ((i : ℕ) → i < n → l i ≤ b) → (i : ℕ) → i < n → next i ≤ b + k * (2 * limit)
+  pub still : ended ≡ true → (i : ℕ) → i < n → next i ≡ l i
+  pub moved : ended ≡ false → (i : ℕ) × (i < n) × (l i < next i)
+
+-- one round from the additions l leaves the room
+abbrev pub Ample : ℕ → ℕ → List ℕ → Type 0
+Ample limit n l = (i : ℕ) → i < n → nums l i + n * (2 * limit) ≤ room
+
+-- what the rounds come to. Ended: the simplest canon, and under it the stars given are column maxima. Not ended: the stars given
+-- have not the greatest sum, if there is a simplest canon at all.
+pub record Climbed (t : List ℤ) (n : ℕ) (column-of : List ℕ) (r : Raising) : Type 0 where
+  pub simplest : r .ended ≡ true → Simplest n (entry t n) (nums (r .additions))
+  pub maxima : r .ended ≡ true → OfMaxima n (entry t n) (nums (r .additions)) (nums column-of)
+  pub roomy : r .ended ≡ true → Roomy n (r .additions)
+  pub exceeded : r .ended ≡ false → (l : ℕ → ℕ) → Simplest n (entry t n) l → Greatest n (entry t n) (nums column-of) → ⊥

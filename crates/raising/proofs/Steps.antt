@@ -1,16 +1,22 @@
 -- One row of a round: raised to the head of its column. Assumes nothing.
 use mathlib.Core.Path.{_≡_, refl, sym}
 use mathlib.Core.Bool.{Bool, true, false}
+use mathlib.Core.List.{List}
 use mathlib.Core.Logic.{_≢_, _⊎_, inl, inr}
-use Prim.Native.Nat.{ℕ, _+_, _*_, _≤_, _<_}
+use Prim.Native.Nat.{ℕ, _+_, _-_, _*_, _≤_, _<_}
+use native.Mathlib.Nat.{mul-le-mul-right}
 use native.Mathlib.Decide.{ℕ-discrete}
 use native.Mathlib.Omega.{arith}
 use lib.IntN.{ℤ, pos, _+ℤ_}
+use lib.ListN.{length, set}
+use lib.Seq.{getD-set-same, getD-set-other}
 use lib.Signed.{_≤ℤ_}
+use Rattle.theory.specs.Lists.{nums}
 use Rattle.theory.specs.Table.{Present, WithinLimit}
 use Rattle.theory.specs.Canon.{Transversal, raised, Maximum, OfMaxima, AtLeast, Head}
 use Rattle.theory.proofs.Signed.{up, dn, signed, raised-le-ud, ud-raised-le, raised-eq-ud}
 use Rattle.theory.proofs.Duality.{under-head}
+use Rattle.orders.specs.Places.{room}
 use Rattle.orders.proofs.Entries.{clash}
 use Rattle.raising.specs.Rounds.{Round}
 
@@ -26,10 +32,19 @@ round-none limit n a σ l =
       moved = λ e. clash refl e;
     }
 
+-- no addition passes the room in a round that leaves it
+pub round-roomy : {limit n k : ℕ} {a : ℕ → ℕ → ℤ} {σ l next : ℕ → ℕ} {e : Bool} → Round limit n a σ l k e next → k ≤ n
+    → ((i : ℕ) → i < n → l i + n * (2 * limit) ≤ room) → (i : ℕ) → i < n → next i ≤ room
+round-roomy {limit} {n} r le ample i hi =
+    omega (arith, r .near (room - n * (2 * limit)) (λ x hx. omega (arith, ample x hx)) i hi, mul-le-mul-right (2 * limit) le, ample i hi)
+
 -- f is set to v at k
 pub record Put (n : ℕ) (f : ℕ → ℕ) (k v : ℕ) (g : ℕ → ℕ) : Type 0 where
   pub here : g k ≡ v
   pub elsewhere : (i : ℕ) → i < n → i ≢ k → g i ≡ f i
+
+pub put-set : (n : ℕ) (f : List ℕ) (k v : ℕ) → k < length f → Put n (nums f) k v (nums (set f k v))
+put-set n f k v h = record { here = getD-set-same f k v 0 h; elsewhere = λ i hi ne. getD-set-other f k i v 0 ne }
 
 -- Row k is raised by v, which takes its starred order to the head of its column: from row x, say. So row k is not lowered; no order
 -- of the column passes it; under a canon m whose column maxima are starred, m k is at least what row x asks for, which is v or more;

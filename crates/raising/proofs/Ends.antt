@@ -1,21 +1,28 @@
 -- Where the rounds lead. Rows that stand as in the simplest canon are final. While not all are, each round makes one more final (K);
 -- so after n rounds the last has changed nothing, or the stars given have not the greatest sum. Assumes nothing.
-use mathlib.Core.Path.{_≡_, refl, sym}
+use mathlib.Core.Path.{_≡_}
 use mathlib.Core.Bool.{Bool, true, false}
+use mathlib.Core.List.{List}
 use mathlib.Core.Logic.{_⊎_, inl, inr}
-use Prim.Native.Nat.{ℕ, zero, suc, _+_, _*_, _≤_, _<_}
+use Prim.Native.Nat.{ℕ, _+_, _*_, _≤_, _<_}
+use native.Mathlib.Nat.{mul-le-mul-left, mul-le-mul-right}
 use native.Mathlib.Decide.{ℕ-discrete, decLt}
 use native.Mathlib.Omega.{arith}
-use lib.IntN.{ℤ, pos, _+ℤ_}
-use lib.Signed.{_≤ℤ_}
+use lib.IntN.{ℤ}
 use Rattle.theory.specs.Totals.{totalℕ}
-use Rattle.theory.specs.Table.{Present}
-use Rattle.theory.specs.Canon.{Transversal, raised, Maximum, OfMaxima, Canon, AtLeast, Simplest, Greatest}
+use Rattle.theory.specs.Limits.{rows, order}
+use Rattle.theory.specs.Lists.{nums}
+use Rattle.theory.specs.Table.{entry}
+use Rattle.theory.specs.Canon.{Transversal, OfMaxima, AtLeast, Simplest, Greatest}
 use Rattle.theory.proofs.Pigeonhole.{choose, choose-yes, choose-no, dec-both}
 use Rattle.theory.proofs.Totals.{total-ge, total-lt, total-bound}
 use Rattle.theory.proofs.Signed.{raised-le-ud}
 use Rattle.theory.proofs.Duality.{greatest-maxima, maxima-everywhere}
 use Rattle.theory.proofs.Reach.{reach, some-at-start}
+use Rattle.orders.specs.Places.{room}
+use Rattle.orders.proofs.Entries.{clash}
+use Rattle.raising.specs.declared.Raising.{Raising}
+use Rattle.raising.specs.Climbed.{Climbed}
 use Rattle.raising.specs.Rounds.{Round}
 
 -- 1 at the rows of l that are final, final additions being f
@@ -118,27 +125,49 @@ module _ (limit n : ℕ) (a : ℕ → ℕ → ℤ) (σ : ℕ → ℕ) where
             let (i, hi, lt) = w .moved q in
             omega (arith, step f sf c i hi (omega (arith, under f sf c i hi)))
 
-  module _ {r : ℕ} {l : ℕ → ℕ} where
+  module _ {r : ℕ} {e : Bool} {l : ℕ → ℕ} (w : After limit n a σ r e l) where
     -- another round
-    pub goes-on : After limit n a σ r false l → Standing limit n a σ r l
-    goes-on w =
-        record { bounded = w .bounded; below = w .below; progress = λ f sf c. inr (w .more refl f sf c) }
+    pub goes-on : e ≡ false → Standing limit n a σ r l
+    goes-on q = record { bounded = w .bounded; below = w .below; progress = λ f sf c. inr (w .more q f sf c) }
 
     -- A round that changed nothing leaves a canon with its column maxima at the stars. So (C2) every canon has them there, and none
     -- has a smaller addition.
-    pub ends : After limit n a σ r true l → Simplest n a l
-    ends w =
+    pub ends : e ≡ true → Simplest n a l
+    ends q =
         record {
-          canon = record { columns = σ; of-maxima = w .done refl };
+          canon = record { columns = σ; of-maxima = w .done q };
           from-start = λ i hi. omega arith;
-          least = λ m c from. w .below m (maxima-everywhere n a (w .done refl) c);
+          least = λ m c from. w .below m (maxima-everywhere n a (w .done q) c);
         }
 
     -- after n rounds more than n rows would be final
-    pub fails : After limit n a σ r false l → n ≤ r → (f : ℕ → ℕ) → Simplest n a f → Greatest n a σ → ⊥
-    fails w le f sf g =
-        omega (arith, w .more refl f sf (greatest-maxima n a (sf .canon) g), total-bound n 1 (final f l) (λ i hi. one (ℕ-discrete (l i) (f i))))
+    pub fails : e ≡ false → n ≤ r → (f : ℕ → ℕ) → Simplest n a f → Greatest n a σ → ⊥
+    fails q le f sf g =
+        omega (arith, w .more q f sf (greatest-maxima n a (sf .canon) g), total-bound n 1 (final f l) (λ i hi. one (ℕ-discrete (l i) (f i))))
       where
         one : {i : ℕ} → (d : Dec (l i ≡ f i)) → choose d 1 0 ≤ 1
         one (yes p) = omega arith
         one (no p) = omega arith
+
+-- ---- at the border
+-- one round more than there are rows leaves the room
+height-low : (n r : ℕ) → n ≤ rows → r ≤ n + 1 → height order n r ≤ room
+height-low n r small le =
+    let few : r ≤ rows + 1 = omega arith in
+    let low : n * (2 * order) ≤ rows * (2 * order) = omega arith in
+    omega (arith, mul-le-mul-right (n * (2 * order)) few, mul-le-mul-left (rows + 1) low)
+
+pub standing-ample : {n r : ℕ} {a : ℕ → ℕ → ℤ} {σ l : ℕ → ℕ} → n ≤ rows → r ≤ n → Standing order n a σ r l
+    → (i : ℕ) → i < n → l i + n * (2 * order) ≤ room
+standing-ample {n} {r} small le s i hi = omega (arith, s .bounded i hi, height-low n (r + 1) small (omega arith))
+
+-- The rounds are over when one changed nothing, or n have been made.
+pub climbed : {t : List ℤ} {n r : ℕ} {column-of : List ℕ} {s : Raising} → n ≤ rows → r ≤ n + 1
+    → After order n (entry t n) (nums column-of) r (s .ended) (nums (s .additions)) → (s .ended ≡ true) ⊎ (n ≤ r) → Climbed t n column-of s
+climbed {t} {n} {r} {column-of} {s} small le w over =
+    record {
+      simplest = ends order n (entry t n) (nums column-of) w;
+      maxima = w .done;
+      roomy = λ q i hi. omega (arith, w .bounded i hi, height-low n r small le);
+      exceeded = λ q. elim over [ inl p ↦ clash p q | inr all ↦ fails order n (entry t n) (nums column-of) w q all ];
+    }

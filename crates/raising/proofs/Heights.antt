@@ -4,10 +4,10 @@ use mathlib.Core.Logic.{_⊎_, inl, inr}
 use Prim.Native.Nat.{ℕ, _+_, _*_, _≤_, _<_}
 use native.Mathlib.Decide.{ℕ-discrete}
 use native.Mathlib.Omega.{arith}
-use lib.IntN.{ℤ, pos, _+ℤ_, _-ℤ_, natAbs, ℤ-discrete}
+use lib.IntN.{ℤ, pos, _+ℤ_, _-ℤ_, natAbs}
 use lib.Signed.{_≤ℤ_, ≤ℤ-refl}
 use Rattle.theory.specs.Table.{absent, Present, WithinLimit}
-use Rattle.theory.specs.Canon.{raised, Maximum, Head}
+use Rattle.theory.specs.Canon.{raised, Head}
 use Rattle.theory.proofs.Signed.{plus, minus, signed, natAbs-is, dn-none}
 use Rattle.orders.specs.Places.{room}
 use Rattle.raising.specs.Rounds.{Higher}

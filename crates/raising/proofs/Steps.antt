@@ -13,7 +13,7 @@ use lib.Seq.{getD-set-same, getD-set-other}
 use lib.Signed.{_≤ℤ_}
 use Rattle.theory.specs.Lists.{nums}
 use Rattle.theory.specs.Table.{Present, WithinLimit}
-use Rattle.theory.specs.Canon.{Transversal, raised, Maximum, OfMaxima, AtLeast, Head}
+use Rattle.theory.specs.Canon.{Transversal, raised, OfMaxima, AtLeast, Head}
 use Rattle.theory.proofs.Signed.{up, dn, signed, raised-le-ud, ud-raised-le, raised-eq-ud}
 use Rattle.theory.proofs.Duality.{under-head}
 use Rattle.orders.specs.Places.{room}

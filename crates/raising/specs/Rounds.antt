@@ -1,6 +1,5 @@
--- Route 3: "From the table and a transversal of greatest sum". 002 §2: "Datos scilicet terminos transversales summa maxima gaudentes
--- asteriscis noto, et seriebus horizontalibus tales quantitates addo, ut termini earum stellati maximis in ipsorum seriebus
--- verticalibus aequentur." The starred order of row i is in column σ i.
+-- What the calls within this crate promise each other: the larger of two heights, and one round. The starred order of row i is in
+-- column σ i.
 use mathlib.Core.Path.{_≡_}
 use mathlib.Core.Bool.{Bool, true, false}
 use mathlib.Core.List.{List}
@@ -9,10 +8,9 @@ use Prim.Native.Nat.{ℕ, _+_, _*_, _≤_, _<_}
 use lib.IntN.{ℤ, pos, _+ℤ_}
 use lib.Signed.{_≤ℤ_}
 use Rattle.theory.specs.Lists.{nums}
-use Rattle.theory.specs.Table.{Present, entry}
-use Rattle.theory.specs.Canon.{raised, OfMaxima, AtLeast, Simplest, Greatest}
-use Rattle.orders.specs.Places.{room, Roomy}
-use Rattle.raising.specs.declared.Raising.{Raising}
+use Rattle.theory.specs.Table.{Present}
+use Rattle.theory.specs.Canon.{raised, OfMaxima, AtLeast}
+use Rattle.orders.specs.Places.{room}
 
 -- r is the larger of a height and the order v raised by l, where v is present
 pub record Higher (v : ℤ) (l : ℕ) (height r : ℤ) : Type 0 where
@@ -34,11 +32,3 @@ pub record Round (limit n : ℕ) (a : ℕ → ℕ → ℤ) (σ l : ℕ → ℕ) 
 -- one round from the additions l leaves the room
 abbrev pub Ample : ℕ → ℕ → List ℕ → Type 0
 Ample limit n l = (i : ℕ) → i < n → nums l i + n * (2 * limit) ≤ room
-
--- what the rounds come to. Ended: the simplest canon, and under it the stars given are column maxima. Not ended: the stars given
--- have not the greatest sum, if there is a simplest canon at all.
-pub record Climbed (t : List ℤ) (n : ℕ) (column-of : List ℕ) (r : Raising) : Type 0 where
-  pub simplest : r .ended ≡ true → Simplest n (entry t n) (nums (r .additions))
-  pub maxima : r .ended ≡ true → OfMaxima n (entry t n) (nums (r .additions)) (nums column-of)
-  pub roomy : r .ended ≡ true → Roomy n (r .additions)
-  pub exceeded : r .ended ≡ false → (l : ℕ → ℕ) → Simplest n (entry t n) l → Greatest n (entry t n) (nums column-of) → ⊥

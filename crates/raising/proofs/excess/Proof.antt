@@ -1,7 +1,6 @@
 -- A difference of a height and an order that does not pass it, as an addition. Assumes nothing.
-use mathlib.Core.Path.{_≡_}
 use native.Mathlib.Omega.{arith}
-use lib.IntN.{pos, _-ℤ_}
+use lib.IntN.{_-ℤ_}
 use mir.Syntax.{w16, w32}
 use mir.Val.{SFits}
 use mir.Facts.{toZ-ofZ, sfits-widen, sfits-toZ, fits-ofZ, fits-natAbs}

@@ -1,6 +1,6 @@
 -- The head of a column, from row i's height on, and what row i lacks of it. Assumes nothing.
-use mathlib.Core.Path.{_≡_, refl}
-use Prim.Native.Nat.{ℕ, _-_, _≤_}
+use mathlib.Core.Path.{_≡_}
+use Prim.Native.Nat.{_-_, _≤_}
 use native.Mathlib.Omega.{arith}
 use borrow.Author.Needs.{needs, sfits-of}
 use mir.Syntax.{w16, w32}
@@ -13,12 +13,6 @@ use Rattle.orders.proofs.Places.{within}
 use Rattle.raising.proofs.Heights.{Reached, reached-first, reached-more, reached-head, reached-above, reached-low}
 use Rattle.raising.proofs.pull.Statement.{statement}
 use Rattle.raising.proofs.pull.Tie as tie
-use Rattle.raising.proofs.pull.Reads as reads
-use Rattle.raising.proofs.pull.Lts as lts
-use Rattle.orders.proofs.place.Reads as place-reads
-use Rattle.orders.proofs.raise.Reads as raise-reads
-use Rattle.raising.proofs.excess.Reads as excess-reads
-use Rattle.raising.proofs.higher.Reads as higher-reads
 
 abbrev Inv-loop : tie.InvT-loop
 Inv-loop table n additions column i own height₀ k₀ height k = (k ≤ n) × Reached n (entry table n) (nums additions) column k (toZ w32 height)

@@ -1,11 +1,11 @@
 -- One round, row by row. Assumes nothing.
 use mathlib.Core.Path.{_≡_}
 use mathlib.Core.Logic.{inl, inr}
-use Prim.Native.Nat.{ℕ, _-_, _≤_, _<_}
+use Prim.Native.Nat.{_-_, _≤_, _<_}
 use native.Mathlib.Omega.{arith}
 use borrow.Author.Needs.{needs}
 use lib.ListN.{length}
-use Rattle.theory.specs.Limits.{order}
+use Rattle.theory.specs.Limits.{rows, order}
 use Rattle.theory.specs.Lists.{nums}
 use Rattle.theory.specs.Table.{entry}
 use Rattle.orders.proofs.Places.{within}
@@ -13,29 +13,22 @@ use Rattle.raising.specs.Rounds.{Round}
 use Rattle.raising.proofs.Steps.{round-none, round-roomy, put-set, round-raised, round-kept}
 use Rattle.raising.proofs.round.Statement.{statement}
 use Rattle.raising.proofs.round.Tie as tie
-use Rattle.raising.proofs.round.Reads as reads
-use Rattle.raising.proofs.round.Lts as lts
-use Rattle.raising.proofs.pull.Reads as pull-reads
 
 abbrev Inv-loop : tie.InvT-loop
-Inv-loop n table column-of next₀ ended₀ i₀ next ended i = (i ≤ n) × (length next ≡ 32) × Round order n (entry table n) (nums column-of) (nums next₀) i ended (nums next)
+Inv-loop n table column-of next₀ ended₀ i₀ next ended i = (i ≤ n) × (length next ≡ rows) × Round order n (entry table n) (nums column-of) (nums next₀) i ended (nums next)
 
 abbrev μ-loop : tie.MeasureT-loop
 μ-loop n table column-of next₀ ended₀ i₀ next ended i = n - i
 
--- src/lib.rt:67:5
 loop-holds : tie.Need-loop-holds Inv-loop μ-loop
 loop-holds c = (omega arith, search needs, round-none _ _ _ _ _)
 
--- src/lib.rt:68:44
 mul-pull : tie.Need-mul-pull Inv-loop μ-loop
 mul-pull c = search needs
 
--- src/lib.rt:68:44
 element-copy-out-pull : tie.Need-element-copy-out-pull Inv-loop μ-loop
 element-copy-out-pull c = search needs
 
--- src/lib.rt:68:13
 pull-requires : tie.Need-pull-requires Inv-loop μ-loop
 pull-requires c κs =
     let s = c .before .before .before .before in
@@ -43,31 +36,24 @@ pull-requires c κs =
     let hi : l .i < s .args .n = search needs in
     (s .pre .0, s .pre .1, round-roomy (l .inv .2) (l .inv .0) (s .pre .3), s .pre .2 .inside (l .i) hi, hi, s .pre .2 .present (l .i) hi)
 
--- src/lib.rt:69:12
 mul-if1 : tie.Need-mul-if1 Inv-loop μ-loop
 mul-if1 c = search needs
 
--- src/lib.rt:69:12
 array-read-if1 : tie.Need-array-read-if1 Inv-loop μ-loop
 array-read-if1 c = search needs
 
--- src/lib.rt:70:13
 mul-next : tie.Need-mul-next Inv-loop μ-loop
 mul-next c = search needs
 
--- src/lib.rt:70:13
 array-write-next : tie.Need-array-write-next Inv-loop μ-loop
 array-write-next c = search needs
 
--- src/lib.rt:73:9
 add-i : tie.Need-add-i Inv-loop μ-loop
 add-i c = search needs
 
--- src/lib.rt:67:5
 loop-less : tie.Need-loop-less Inv-loop μ-loop
 loop-less c = search needs
 
--- src/lib.rt:67:5
 loop-again : tie.Need-loop-again Inv-loop μ-loop
 loop-again c =
     let s = c .before .before .before .before .before .before in
@@ -76,13 +62,16 @@ loop-again c =
     let w = within order (s .args .n) (s .args .table .now) (s .pre .0 .square) (s .pre .1) in
     let p = c .before .pull in
     elim (c .if1 .came) [
-      | inl v ↦ (search needs, rw (v .1) (search needs), rw (v .1, v .2)
-          (round-raised order _ _ _ _ _ (s .pre .2) w hi (p .result) (p .ensures) (l .inv .2)
-          (put-set _ (l .next) _ _ (omega (arith, l .inv .1, s .pre .0 .small))) (v .0 .taken)))
+      | inl v ↦ (
+        search needs,
+        rw (v .1) (search needs),
+        rw (v .1, v .2)
+            (round-raised order _ _ _ _ _ (s .pre .2) w hi (p .result) (p .ensures) (l .inv .2)
+            (put-set _ (l .next) _ _ (omega (arith, l .inv .1, s .pre .0 .small))) (v .0 .taken)),
+      )
       | inr v ↦ (search needs, rw (v .1) (l .inv .1), rw (v .1, v .2) (round-kept order _ _ _ _ _ (s .pre .2) w hi (p .result) (p .ensures) (l .inv .2) (v .0 .left)))
     ]
 
--- src/lib.rt:60:1
 returns : tie.Need-returns Inv-loop μ-loop
 returns c =
     let e : c .before .loop .i ≡ c .before .before .args .n = omega arith in

@@ -1,0 +1,34 @@
+-- What the calls within this crate promise each other: the larger of two heights, and one round. The starred order of row i is in
+-- column σ i.
+use mathlib.Core.Path.{_≡_}
+use mathlib.Core.Bool.{Bool, true, false}
+use mathlib.Core.List.{List}
+use mathlib.Core.Logic.{_⊎_}
+use Prim.Native.Nat.{ℕ, _+_, _*_, _≤_, _<_}
+use lib.IntN.{ℤ, pos, _+ℤ_}
+use lib.Signed.{_≤ℤ_}
+use Rattle.theory.specs.Lists.{nums}
+use Rattle.theory.specs.Table.{Present}
+use Rattle.theory.specs.Canon.{raised, OfMaxima, AtLeast}
+use Rattle.orders.specs.Places.{room}
+
+-- r is the larger of a height and the order v raised by l, where v is present
+pub record Higher (v : ℤ) (l : ℕ) (height r : ℤ) : Type 0 where
+  pub this : Present v → (v +ℤ pos l) ≤ℤ r
+  pub other : height ≤ℤ r
+  pub one : (r ≡ height) ⊎ (Present v × (r ≡ v +ℤ pos l))
+
+-- the first k rows of a round from the additions l, of a table a whose orders are within the limit: rows are raised and never
+-- lowered; each of the k is raised to what the others had in its column before the round; no row passes a canon's addition; k rows
+-- raise the largest addition by at most 2k limits. `ended` tells whether nothing was changed.
+pub record Round (limit n : ℕ) (a : ℕ → ℕ → ℤ) (σ l : ℕ → ℕ) (k : ℕ) (ended : Bool) (next : ℕ → ℕ) : Type 0 where
+  pub grows : AtLeast n a l next
+  pub reaches : (i x : ℕ) → i < k → x < n → Present (a x (σ i)) → raised n a l x (σ i) ≤ℤ raised n a next i (σ i)
+  pub below : (m : ℕ → ℕ) → OfMaxima n a m σ → AtLeast n a l m → AtLeast n a next m
+  pub near : (b : ℕ) → ((i : ℕ) → i < n → l i ≤ b) → (i : ℕ) → i < n → next i ≤ b + k * (2 * limit)
+  pub still : ended ≡ true → (i : ℕ) → i < n → next i ≡ l i
+  pub moved : ended ≡ false → (i : ℕ) × (i < n) × (l i < next i)
+
+-- one round from the additions l leaves the room
+abbrev pub Ample : ℕ → ℕ → List ℕ → Type 0
+Ample limit n l = (i : ℕ) → i < n → nums l i + n * (2 * limit) ≤ room

@@ -1,0 +1,96 @@
+-- How far the growing has come between two insertions.
+use mathlib.Core.Path.{_≡_}
+use mathlib.Core.Bool.{Bool, true, false}
+use mathlib.Core.List.{List}
+use Prim.Native.Nat.{ℕ, _+_, _*_, _≤_, _<_}
+use lib.Dec.{T}
+use lib.IntN.{ℤ, pos}
+use lib.Signed.{_≤ℤ_}
+use Rattle.theory.specs.Limits.{rows, order, handed}
+use Rattle.theory.specs.Lists.{nums, ints}
+use Rattle.theory.specs.Table.{Present, entry, WithinLimit}
+use Rattle.theory.specs.Canon.{Transversal, raised, Canon, AtLeast, Head, Heads}
+use Rattle.orders.specs.Places.{Square}
+use Rattle.growth.specs.declared.Grown.{Grown}
+use Rattle.growth.specs.declared.Marked.{Marked}
+use Rattle.growth.specs.declared.FirstHeads.{FirstHeads}
+
+-- what one insertion adds at most to the largest addition
+abbrev pub climb : ℕ
+climb = 4 * (order * rows) + 2 * order
+
+module _ (n : ℕ) (a : ℕ → ℕ → ℤ) where
+  -- a present order that, raised, is the head of its column
+  pub record Tight (l : ℕ → ℕ) (h : ℕ → ℤ) (i j : ℕ) : Type 0 where
+    pub present : Present (a i j)
+    pub is : raised n a l i j ≡ h j
+
+  -- The marks when the rows below s are inserted: each of these rows has a column, no two the same, and is tight there. The row of
+  -- a column is ρ j, n or more where it has none; the column of a row is κ i.
+  pub record Marking (s : ℕ) (l : ℕ → ℕ) (h : ℕ → ℤ) (ρ κ : ℕ → ℕ) : Type 0 where
+    pub row : (j : ℕ) → j < n → ρ j < n → (ρ j < s) × (κ (ρ j) ≡ j) × Tight l h (ρ j) j
+    pub column : (i : ℕ) → i < s → (κ i < n) × (ρ (κ i) ≡ i)
+
+  -- Marks, heads that no raised order exceeds and that are still the first ones in the unmarked columns, and additions that are
+  -- nowhere below the start and nowhere above a canon from it.
+  pub record Standing (start : ℕ → ℕ) (s : ℕ) (l : ℕ → ℕ) (h : ℕ → ℤ) (ρ κ : ℕ → ℕ) : Type 0 where
+    pub marking : Marking s l h ρ κ
+    pub under : (i j : ℕ) → i < n → j < n → Present (a i j) → raised n a l i j ≤ℤ h j
+    pub first : (j : ℕ) → j < n → n ≤ ρ j → Head n a start j (h j)
+    pub from-start : AtLeast n a start l
+    pub least : (m : ℕ → ℕ) → Canon n a m → AtLeast n a start m → AtLeast n a l m
+
+  -- The way back from the unmarked column `end` to row s: its giver is a row of the tree and tight there, and so is the giver of
+  -- the column of each row of the tree but s. A giver comes before the row of its column in the order in which rows joined.
+  pub record WayBack (s : ℕ) (l : ℕ → ℕ) (h : ℕ → ℤ) (ρ κ giver : ℕ → ℕ) (end : ℕ) : Type 0 where
+    pub small : n ≤ rows
+    pub inserted : s < n
+    pub marking : Marking s l h ρ κ
+    pub tree : ℕ → Bool
+    pub rank : ℕ → ℕ
+    pub early : (i : ℕ) → i < n → T (tree i) → i ≤ s
+    pub inside : end < n
+    pub free : n ≤ ρ end
+    pub last : (giver end < n) × T (tree (giver end)) × Tight l h (giver end) end
+    pub link : (i : ℕ) → i < s → T (tree i)
+        → (giver (κ i) < n) × T (tree (giver (κ i))) × Tight l h (giver (κ i)) (κ i) × (rank (giver (κ i)) < rank i)
+
+-- some way back
+pub record SomeWay (s end : ℕ) (givers row-of column-of : List ℕ) : Type 0 where
+  pub n : ℕ
+  pub a : ℕ → ℕ → ℤ
+  pub l : ℕ → ℕ
+  pub h : ℕ → ℤ
+  pub way : WayBack n a s l h (nums row-of) (nums column-of) (nums givers) end
+
+-- r has the marks after every such way back was gone: row s has its mark too, and no column has lost its own
+pub record Flipped (s end : ℕ) (givers row-of column-of : List ℕ) (r : Marked) : Type 0 where
+  pub marking : (n : ℕ) (a : ℕ → ℕ → ℤ) (l : ℕ → ℕ) (h : ℕ → ℤ) → WayBack n a s l h (nums row-of) (nums column-of) (nums givers) end
+      → Marking n a (s + 1) l h (nums (r .rows)) (nums (r .columns))
+  pub unmarked : (n : ℕ) (a : ℕ → ℕ → ℤ) (l : ℕ → ℕ) (h : ℕ → ℤ) → WayBack n a s l h (nums row-of) (nums column-of) (nums givers) end
+      → (j : ℕ) → j < n → n ≤ nums (r .rows) j → n ≤ nums row-of j
+
+-- the same of what the code holds, with no addition beyond what s insertions can make of an addition handed in
+pub record Ready (t : List ℤ) (n : ℕ) (start : ℕ → ℕ) (s : ℕ) (l : List ℕ) (h : List ℤ) (row-of column-of : List ℕ) : Type 0 where
+  pub square : Square t n
+  pub orders : WithinLimit order n (entry t n)
+  pub handed-in : (i : ℕ) → i < n → start i ≤ handed
+  pub standing : Standing n (entry t n) start s (nums l) (ints h) (nums row-of) (nums column-of)
+  pub top : (i : ℕ) → i < n → nums l i ≤ handed + s * climb
+
+-- ready from some start
+pub record SomeReady (t : List ℤ) (n s : ℕ) (w : Grown) : Type 0 where
+  pub inside : s < n
+  pub start : ℕ → ℕ
+  pub ready : Ready t n start s (w .additions) (w .heads) (w .rows) (w .columns)
+
+-- row s is inserted, from whatever start w came; or there is no complete transversal
+pub record Inserted (t : List ℤ) (n s : ℕ) (w r : Grown) : Type 0 where
+  pub found : r .found ≡ true → (start : ℕ → ℕ) → Ready t n start s (w .additions) (w .heads) (w .rows) (w .columns)
+      → Ready t n start (s + 1) (r .additions) (r .heads) (r .rows) (r .columns)
+  pub none : r .found ≡ false → (σ : ℕ → ℕ) → Transversal n (entry t n) σ → ⊥
+
+-- the heads of all columns under the start, or there is a column with no order, and so no complete transversal
+pub record FirstOf (t : List ℤ) (n : ℕ) (start : List ℕ) (r : FirstHeads) : Type 0 where
+  pub heads : r .present ≡ true → Heads n (entry t n) (nums start) (ints (r .heads))
+  pub none : r .present ≡ false → (σ : ℕ → ℕ) → Transversal n (entry t n) σ → ⊥

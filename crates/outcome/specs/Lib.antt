@@ -1,2 +1,2 @@
 -- What the contracts of this crate cite.
-pub mod Whole
+pub mod Completion

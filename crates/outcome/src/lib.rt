@@ -8,10 +8,11 @@ ghost use Rattle.theory.specs.Lists.{nums, ints};
 ghost use Rattle.theory.specs.Table.{entry};
 ghost use Rattle.theory.specs.Canon.{Heads, sum};
 ghost use Rattle.orders.specs.Places.{room, Square, Roomy};
-ghost use Rattle.outcome.specs.Whole.{Occupied};
+ghost use Rattle.outcome.specs.Completion.{Occupied, Settled, WholeOf, HandedOut};
 use orders::ROWS;
 use orders::head;
 use orders::place;
+use stars::first_stars;
 
 // The heads of all columns.
 fn heads_of(table: &[i16], n: usize, additions: &[u32; ROWS]) -> [i32; ROWS]
@@ -67,7 +68,7 @@ fn numbered(n: usize, columns: &[usize; ROWS]) -> [u32; ROWS]
 }
 
 // Fixed numbers copied out into a lent slice.
-pub fn copy_u32(from: [u32; ROWS], to: &mut [u32])
+fn copy_u32(from: [u32; ROWS], to: &mut [u32])
     requires { ⌜ length (now to) ≤ rows ⌝ }
     ensures { λ _. ⌜ now (to .exit) ≡ take (length (now (to .entry))) from ⌝ }
 {
@@ -78,7 +79,7 @@ pub fn copy_u32(from: [u32; ROWS], to: &mut [u32])
     }
 }
 
-pub fn copy_i32(from: [i32; ROWS], to: &mut [i32])
+fn copy_i32(from: [i32; ROWS], to: &mut [i32])
     requires { ⌜ length (now to) ≤ rows ⌝ }
     ensures { λ _. ⌜ now (to .exit) ≡ take (length (now (to .entry))) from ⌝ }
 {
@@ -88,4 +89,48 @@ pub fn copy_i32(from: [i32; ROWS], to: &mut [i32])
         to[i] = v;
         i += 1;
     }
+}
+
+// The whole answer, held by value until it is copied out.
+pub struct Whole {
+    pub additions: [u32; ROWS],
+    pub stars: [u32; ROWS],
+    pub heads: [i32; ROWS],
+    pub sum: i32,
+}
+
+// The whole answer of a canon, from the marks of any complete transversal of its column maxima.
+pub fn completed(
+    n: usize,
+    table: &[i16],
+    additions: [u32; ROWS],
+    rows: [usize; ROWS],
+    columns: [usize; ROWS],
+) -> Whole
+    requires { ⌜ Settled (now table) n additions rows columns ⌝ }
+    ensures { λ r. ⌜ WholeOf (now (table .entry)) n additions r ⌝ }
+{
+    let heads = heads_of(table, n, &additions);
+    let first = first_stars(n, table, &additions, &heads, rows, columns);
+    let sum = sum_of(table, n, &first);
+    let stars = numbered(n, &first);
+    Whole {
+        additions,
+        stars,
+        heads,
+        sum,
+    }
+}
+
+// The whole answer copied out into the lent slices, which have a place for each row.
+pub fn hand_out(answer: Whole, adds: &mut [u32], stars: &mut [u32], heads: &mut [i32])
+    requires { ⌜ (length (now adds) ≤ rows) × (length (now stars) ≤ rows) × (length (now heads) ≤ rows) ⌝ }
+    ensures { λ _. ⌜ HandedOut answer (now (adds .entry)) (now (stars .entry)) (now (heads .entry)) (now (adds .exit)) (now (stars .exit)) (now (heads .exit)) ⌝ }
+{
+    let a = answer.additions;
+    let s = answer.stars;
+    let h = answer.heads;
+    copy_u32(a, adds);
+    copy_u32(s, stars);
+    copy_i32(h, heads);
 }

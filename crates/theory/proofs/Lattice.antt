@@ -98,6 +98,30 @@ module _ (n : ℕ) (a : ℕ → ℕ → ℤ) where
         is = rw (← (e (t .row) (t .inside))) (t .is);
       }
 
+  -- what is said of a transversal is said of any that agrees with it in the rows
+  pub transversal-same : {σ τ : ℕ → ℕ} → Same σ τ → Transversal n a σ → Transversal n a τ
+  transversal-same e t =
+      record {
+        inside = λ i hi. rw (← (e i hi)) (t .inside i hi);
+        present = λ i hi. rw (← (e i hi)) (t .present i hi);
+        apart = λ i k hi hk q. t .apart i k hi hk (e i hi ∙ q ∙ sym (e k hk));
+      }
+
+  pub of-maxima-rows : {l σ τ : ℕ → ℕ} → Same σ τ → OfMaxima n a l σ → OfMaxima n a l τ
+  of-maxima-rows e c = record { transversal = transversal-same e (c .transversal); maximum = λ i hi. rw (← (e i hi)) (c .maximum i hi) }
+
+  pub stars-rows : {l σ τ : ℕ → ℕ} → Same σ τ → Stars n a l σ → Stars n a l τ
+  stars-rows {l} {σ} {τ} e s =
+      record {
+        of-maxima = of-maxima-rows e (s .of-maxima);
+        first = λ ρ c b. s .first ρ c (record {
+          row = b .row;
+          inside = b .inside;
+          same = λ i hi. b .same i hi ∙ sym (e i (omega (arith, b .inside)));
+          smaller = rw (e (b .row) (b .inside)) (b .smaller);
+        });
+      }
+
   pub heads-once : {l m : ℕ → ℕ} {h k : ℕ → ℤ} → Same l m → Heads n a l h → Heads n a m k → Same h k
   heads-once e s t j hj = head-once n a (head-same e (s j hj)) (t j hj)
 

@@ -1,0 +1,38 @@
+-- The whole answer from a canon and the marks of a transversal of its column maxima. Assumes nothing.
+use borrow.Author.Needs.{needs, sfits-of}
+use mir.Syntax.{w32}
+use mir.Facts.{toZ-ofZ}
+use Rattle.outcome.proofs.Parts.{occupied, completed-whole}
+use Rattle.outcome.proofs.completed.Statement.{statement}
+use Rattle.outcome.proofs.completed.Tie as tie
+
+heads-of-requires : tie.Need-heads-of-requires
+heads-of-requires c κs = let g = c .before .pre in (g .square, g .roomy, occupied (g .of-maxima) (g .marks))
+
+first-stars-requires : tie.Need-first-stars-requires
+first-stars-requires c κs =
+    let g = c .before .before .before .before .pre in
+    record {
+      given = record { square = g .square; roomy = g .roomy; heads = c .before .before .heads-of .ensures };
+      marked = record { marks = g .marks; of-maxima = g .of-maxima };
+    }
+
+sum-of-requires : tie.Need-sum-of-requires
+sum-of-requires c κs =
+    (c .before .before .before .before .before .before .pre .square, c .before .first-stars .ensures .of-maxima .transversal .inside)
+
+numbered-requires : tie.Need-numbered-requires
+numbered-requires c κs = (
+  c .before .before .before .before .before .before .before .before .pre .square .small,
+  c .before .before .before .first-stars .ensures .of-maxima .transversal .inside,
+)
+
+returns : tie.Need-returns
+returns c =
+    let s = c .before .before .sum-of in
+    rw (toZ-ofZ {w = w32} {z = s .result} (sfits-of (s .ok)))
+    (completed-whole _ _ _ (c .before .before .before .before .first-stars .result) _ _ _ (c .before .before .before .before .before .before .before .heads-of .ensures) (c .before .before .before .before .first-stars .ensures)
+    (s .ensures) (c .numbered .ensures))
+
+pub completed-spec : {M : Type 1} → statement M
+completed-spec = tie.close (tie.spec heads-of-requires first-stars-requires sum-of-requires numbered-requires returns)

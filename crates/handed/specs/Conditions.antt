@@ -1,0 +1,72 @@
+-- Document 01's "Refusal numbers", the column "Given exactly when", as far as table, additions and stars go: one definition for
+-- each number. The tests of a call stand in rising order.
+use mathlib.Core.Path.{_≡_}
+use mathlib.Core.Logic.{_⊎_}
+use mathlib.Core.List.{List, [], _∷_}
+use Prim.Native.Nat.{ℕ, _*_, _≤_, _<_}
+use lib.IntN.{ℤ}
+use lib.ListN.{length}
+use Rattle.theory.specs.Limits.{rows, order, handed}
+use Rattle.theory.specs.Lists.{nums, columns, StarList}
+use Rattle.theory.specs.Table.{entry, Entries}
+use Rattle.theory.specs.Canon.{Transversal, Canon, Misplaced}
+use Rattle.orders.specs.Refusals.{Test}
+
+-- 1: "N is 0 or above 32"
+abbrev pub OutOfSize : ℕ → Type 0
+OutOfSize n = (n ≡ 0) ⊎ (rows < n)
+
+-- "additions, stars, heads N each"
+abbrev pub Fitting : ℕ → List ℕ → Type 0
+Fitting n [] = Unit
+Fitting n (k ∷ ks) = (k ≡ n) × Fitting n ks
+
+-- 2: "a lent slice isn't of the wanted length": "Table N × N", and the lengths ks N each
+abbrev pub WrongLength : ℕ → List ℤ → List ℕ → Type 0
+WrongLength n t ks = (length t ≡ n * n) × Fitting n ks → ⊥
+
+-- 3: "an entry is neither absent nor −100 to 100"
+abbrev pub WrongEntry : List ℤ → Type 0
+WrongEntry t = Entries order t → ⊥
+
+-- 4: "an addition handed in is above 10,000"
+abbrev pub TooLarge : List ℕ → Type 0
+TooLarge l = ((i : ℕ) → i < length l → nums l i ≤ handed) → ⊥
+
+-- 5: "a star list has a number outside 1 to N, or one twice"
+abbrev pub WrongStars : ℕ → List ℕ → Type 0
+WrongStars n s = StarList n s → ⊥
+
+-- 6: "no complete transversal exists"
+abbrev pub NoTransversal : ℕ → List ℤ → Type 0
+NoTransversal n t = (σ : ℕ → ℕ) → Transversal n (entry t n) σ → ⊥
+
+-- 7: "additions handed in are no canon"
+abbrev pub NoCanon : ℕ → List ℤ → List ℕ → Type 0
+NoCanon n t l = Canon n (entry t n) (nums l) → ⊥
+
+-- 8: "a star lies on an absent place, or the stars' sum isn't the greatest"
+abbrev pub NotGreatest : ℕ → List ℤ → List ℕ → Type 0
+NotGreatest n t s = Misplaced n (entry t n) (columns s)
+
+-- a number with its condition
+abbrev pub _given-when_ : ℕ → Type 0 → Test
+_given-when_ k P = record { number = k; applies = P }
+
+-- the first three, which concern every call on a table
+abbrev pub basic : ℕ → List ℤ → List ℕ → List Test → List Test
+basic n t ks more = _given-when_ 1 (OutOfSize n) ∷ _given-when_ 2 (WrongLength n t ks) ∷ _given-when_ 3 (WrongEntry t) ∷ more
+
+-- route 1
+abbrev pub table-tests : ℕ → List ℤ → List ℕ → List Test
+table-tests n t ks = basic n t ks (_given-when_ 6 (NoTransversal n t) ∷ [])
+
+-- route 2 and the yes-or-no: "never give 5 or 8"
+abbrev pub canon-tests : ℕ → List ℤ → List ℕ → List ℕ → List Test
+canon-tests n t given ks =
+    basic n t ks (_given-when_ 4 (TooLarge given) ∷ _given-when_ 6 (NoTransversal n t) ∷ _given-when_ 7 (NoCanon n t given) ∷ [])
+
+-- route 3: "never gives 4 or 7"
+abbrev pub star-tests : ℕ → List ℤ → List ℕ → List ℕ → List Test
+star-tests n t given ks =
+    basic n t ks (_given-when_ 5 (WrongStars n given) ∷ _given-when_ 6 (NoTransversal n t) ∷ _given-when_ 8 (NotGreatest n t given) ∷ [])

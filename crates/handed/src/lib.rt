@@ -1,0 +1,154 @@
+ghost use mathlib.Core.Path.{_≡_};
+ghost use mathlib.Core.List.{[], _∷_};
+ghost use Prim.Native.Nat.{ℕ, _≤_, _<_};
+ghost use lib.ListN.{length};
+ghost use Rattle.theory.specs.Limits.{rows, handed};
+ghost use Rattle.theory.specs.Lists.{nums};
+ghost use Rattle.theory.specs.Table.{Present, entry};
+ghost use Rattle.orders.specs.Places.{Square};
+ghost use Rattle.orders.specs.Tested.{Tells};
+ghost use Rattle.handed.specs.Handed.{Basic, ListedAs};
+use orders::ABSENT;
+use orders::HANDED;
+use orders::ROWS;
+use orders::entries_stand;
+use orders::place;
+
+// The lowest of the refusals 1, 2 and 3 that applies, or 0: the size, the table's length and four lengths that are to be n, the
+// entries.
+pub fn tested(n: usize, table: &[i16], given: usize, adds: usize, stars: usize, heads: usize) -> u32
+    ensures { λ r. ⌜ Basic n (now (table .entry)) (given ∷ adds ∷ stars ∷ heads ∷ []) r ⌝ }
+{
+    if n == 0 {
+        return 1;
+    }
+    if ROWS < n {
+        return 1;
+    }
+    if table.len() != n * n {
+        return 2;
+    }
+    if given != n {
+        return 2;
+    }
+    if adds != n {
+        return 2;
+    }
+    if stars != n {
+        return 2;
+    }
+    if heads != n {
+        return 2;
+    }
+    if !entries_stand(table) {
+        return 3;
+    }
+    0
+}
+
+// Are all additions handed in within the limit?
+pub fn additions_stand(given: &[u32]) -> bool
+    ensures { λ r. ⌜ Tells r ((i : ℕ) → i < length (now (given .entry)) → nums (now (given .entry)) i ≤ handed) ⌝ }
+{
+    let mut i = 0;
+    while i < given.len() {
+        if HANDED < given[i] {
+            return false;
+        }
+        i += 1;
+    }
+    true
+}
+
+// The numbers of a lent slice, held by value.
+pub fn held(given: &[u32]) -> [u32; ROWS]
+    requires { ⌜ length (now given) ≤ rows ⌝ }
+    ensures { λ r. ⌜ ((i : ℕ) → i < length (now (given .entry)) → nums r i ≡ nums (now (given .entry)) i) ⌝ }
+{
+    let mut kept = [0u32; ROWS];
+    let mut i = 0;
+    while i < given.len() {
+        kept[i] = given[i];
+        i += 1;
+    }
+    kept
+}
+
+// Are the first n additions of two arrays the same?
+pub fn same(n: usize, left: &[u32; ROWS], right: &[u32; ROWS]) -> bool
+    requires { ⌜ n ≤ rows ⌝ }
+    ensures { λ r. ⌜ Tells r ((i : ℕ) → i < n → nums (now (left .entry)) i ≡ nums (now (right .entry)) i) ⌝ }
+{
+    let mut i = 0;
+    while i < n {
+        if left[i] != right[i] {
+            return false;
+        }
+        i += 1;
+    }
+    true
+}
+
+// Is the place of each row in its column present?
+pub fn all_present(table: &[i16], n: usize, columns: &[usize; ROWS]) -> bool
+    requires { ⌜ Square (now table) n × ((i : ℕ) → i < n → nums (now columns) i < n) ⌝ }
+    ensures { λ r. ⌜ Tells r ((i : ℕ) → i < n → Present (entry (now (table .entry)) n i (nums (now (columns .entry)) i))) ⌝ }
+{
+    let mut i = 0;
+    while i < n {
+        if place(table, n, i, columns[i]) == ABSENT {
+            return false;
+        }
+        i += 1;
+    }
+    true
+}
+
+// Whether a list of stars stands, and its marks: row of column and column of row, counted from 0.
+pub struct Listed {
+    pub stands: bool,
+    pub rows: [usize; ROWS],
+    pub columns: [usize; ROWS],
+}
+
+// The marks of a list of stars, which is to have each number from 1 to n once.
+pub fn listed_marks(n: usize, given: &[u32]) -> Listed
+    requires { ⌜ (n ≤ rows) × (length (now given) ≡ n) ⌝ }
+    ensures { λ r. ⌜ ListedAs n (now (given .entry)) r ⌝ }
+{
+    let mut rows = [ROWS; ROWS];
+    let mut columns = [0usize; ROWS];
+    let mut i = 0;
+    while i < n {
+        let star = given[i] as usize;
+        if star == 0 {
+            return Listed {
+                stands: false,
+                rows,
+                columns,
+            };
+        }
+        if n < star {
+            return Listed {
+                stands: false,
+                rows,
+                columns,
+            };
+        }
+        if rows[star - 1] != ROWS {
+            return Listed {
+                stands: false,
+                rows,
+                columns,
+            };
+        }
+        rows[star - 1] = i;
+        columns[i] = star - 1;
+        i += 1;
+    }
+    Listed {
+        stands: true,
+        rows,
+        columns,
+    }
+}

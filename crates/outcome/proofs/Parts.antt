@@ -17,7 +17,7 @@ use Rattle.theory.proofs.Signed.{plus, signed, below-zero}
 use Rattle.orders.specs.Places.{TopOf, Marks}
 use Rattle.orders.specs.declared.Top.{Top}
 use Rattle.orders.proofs.Entries.{clash}
-use Rattle.theory.proofs.Lattice.{stars-rows, sum-same}
+use Rattle.theory.proofs.Unique.{stars-rows, sum-same}
 use Rattle.outcome.specs.Completion.{Occupied, WholeOf}
 
 -- the head of an occupied column is found

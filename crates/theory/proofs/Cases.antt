@@ -19,7 +19,7 @@ use Rattle.theory.specs.Canon.{Transversal, raised, Maximum, OfMaxima, C
 use Rattle.theory.specs.Cases.{Handed, nothing, additions, stars, Outcome, answer, refusal6, refusal7, refusal8, Case, Leads, NoCanon, Misplaces, SomeTransversal, Comes, Right, Every, cases}
 use Rattle.theory.proofs.Pigeonhole.{onto}
 use Rattle.theory.proofs.Signed.{signed}
-use Rattle.theory.proofs.Lattice.{sum-same}
+use Rattle.theory.proofs.Unique.{sum-same}
 use Rattle.theory.proofs.Reach.{Level, levels-least}
 use Rattle.theory.proofs.Search.{guard, fresh, search, both, and-both, either, left-either, right-either, every, every-told, all, all-told, all-tells, some, some-told, some-tells, listed, listed-at, found, found-told, found-tells, Chosen}
 

@@ -3,6 +3,7 @@ pub mod Pigeonhole
 pub mod Totals
 pub mod Duality
 pub mod Lattice
+pub mod Unique
 pub mod Reach
 pub mod Bounds
 pub mod Search

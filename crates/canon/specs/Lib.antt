@@ -1,0 +1,3 @@
+-- The promises of the public calls.
+pub mod Answers
+pub mod Promises

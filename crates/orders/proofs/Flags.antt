@@ -13,11 +13,15 @@ use Rattle.theory.specs.Totals.{totalℕ}
 use Rattle.theory.proofs.Totals.{total-lt}
 use Rattle.orders.proofs.Entries.{clash}
 
+-- a fresh array has its one value everywhere, also past its end if that is what a read there gives
+pub fresh : {X : Type 0} (m i : ℕ) (d : X) → getD (replicate m d) i d ≡ d
+fresh zero i d = refl
+fresh (suc m) zero d = refl
+fresh (suc m) (suc i) d = fresh m i d
+
 -- no flag of a fresh array is set
 pub all-unset : (m i : ℕ) → flags (replicate m false) i ≡ false
-all-unset zero i = refl
-all-unset (suc m) zero = refl
-all-unset (suc m) (suc i) = all-unset m i
+all-unset m i = fresh m i false
 
 -- a flag that is set once flag k is: k's own, or one that was
 pub set-flag : (f : List Bool) (k i : ℕ) → flags (set f k true) i ≡ true → (i ≡ k) ⊎ (flags f i ≡ true)

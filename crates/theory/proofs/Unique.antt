@@ -110,6 +110,14 @@ module _ (n : ℕ) (a : ℕ → ℕ → ℤ) where
         least = λ c cc from i hi. rw (← (e i hi)) (f .least c cc from i hi);
       }
 
+  pub start-same : {start begin l : ℕ → ℕ} → Same start begin → LeastFrom n a start l → LeastFrom n a begin l
+  start-same e f =
+      record {
+        canon = f .canon;
+        from-start = λ i hi. rw (← (e i hi)) (f .from-start i hi);
+        least = λ c cc from. f .least c cc (λ i hi. rw (e i hi) (from i hi));
+      }
+
   pub stars-same : {l m σ : ℕ → ℕ} → Same l m → Stars n a l σ → Stars n a m σ
   stars-same e s =
       record { of-maxima = of-maxima-same e (s .of-maxima); first = λ τ c. s .first τ (of-maxima-same (λ i hi. sym (e i hi)) c) }

@@ -1,60 +1,77 @@
-use borrow.Author.Needs.{needs}
+-- Route 1 keeps its promise. Assumes nothing.
+use mathlib.Core.Path.{refl, ap}
+use mathlib.Core.Logic.{inl, inr}
+use mathlib.Core.List.{[], _∷_}
+use Prim.Native.Nat.{ℕ, _<_, _≤_}
+use native.Mathlib.Omega.{arith}
+use borrow.Author.Needs.{needs, sfits-of}
+use borrow.Author.Tests.{not-true, not-false}
+use denote.Ref.{now}
+use lib.ListN.{length}
+use mir.Syntax.{w32}
+use mir.Val.{SFits}
+use mir.Facts.{toZ-ofZ}
+use Rattle.orders.specs.Refusals.{gives}
+use Rattle.canon.proofs.Refusing.{Sound, basic-own, refuse-size, refuse-lengths, refuse-entries, refuse-later, sound, past-clear}
+use Rattle.canon.proofs.Answering.{routed, zero-start, zero-simplest}
 use Rattle.canon.proofs.solve.Statement.{statement}
 use Rattle.canon.proofs.solve.Tie as tie
-use Rattle.canon.proofs.solve.Reads as reads
-use Rattle.canon.proofs.solve.Lts as lts
-use Rattle.growth.proofs.grow.Reads as grow-reads
-use Rattle.handed.proofs.tested.Reads as tested-reads
-use Rattle.outcome.proofs.completed.Reads as completed-reads
-use Rattle.outcome.proofs.hand_out.Reads as hand-out-reads
 
--- src/lib.rt:37:9
 tested-requires : tie.Need-tested-requires
 tested-requires c κs = search needs
 
--- src/lib.rt:39:9
 returns : tie.Need-returns
-returns c = ?
+returns c = refuse-size (basic-own (c .before .tested .ensures)) (c .if1 .taken) refl
 
--- src/lib.rt:42:9
 returns-2 : tie.Need-returns-2
-returns-2 c = ?
+returns-2 c = refuse-lengths (basic-own (c .before .before .tested .ensures)) (c .if2 .taken) refl
 
--- src/lib.rt:45:9
 returns-3 : tie.Need-returns-3
-returns-3 c = ?
+returns-3 c = refuse-entries (basic-own (c .before .before .before .tested .ensures)) (c .if3 .taken) refl
 
--- src/lib.rt:47:9
+-- past the three tests
+passed : (c : tie.Else3) → Sound (c .before .before .before .before .before .before .args .n) (now (c .before .before .before .before .before .before .args .table))
+    (length (now (c .before .before .before .before .before .before .args .adds)) ∷ length (now (c .before .before .before .before .before .before .args .stars)) ∷ length (now (c .before .before .before .before .before .before .args .heads)) ∷ [])
+passed c = sound (basic-own (c .before .before .before .tested .ensures)) (c .before .before .if1 .left) (c .before .if2 .left) (c .if3 .left)
+
 grow-requires : tie.Need-grow-requires
-grow-requires c κs = ?
+grow-requires c κs = let s = passed c in record { square = s .square; entries = s .entries; handed-in = λ i hi. zero-start _ i }
 
--- src/lib.rt:49:9
 returns-4 : tie.Need-returns-4
-returns-4 c = ?
+returns-4 c =
+    refuse-later (passed (c .before .before .before)) 6 (inl (c .before .before .grow .ensures .none (not-true _ (c .if4 .taken)), refl)) refl
 
--- src/lib.rt:54:9
 completed-requires : tie.Need-completed-requires
-completed-requires c κs = ?
+completed-requires c κs =
+    let g = c .before .before .before .before .before .grow .ensures .found (not-false _ (c .before .before .before .if4 .left)) in
+    let s = passed (c .before .before .before .before .before .before) in
+    record { square = s .square; roomy = g .roomy; of-maxima = g .of-maxima; marks = g .marks }
 
--- src/lib.rt:56:5
 hand-out-requires : tie.Need-hand-out-requires
-hand-out-requires c κs = ?
+hand-out-requires c κs =
+    let s = passed (c .before .before .before .before .before .before .before .before .before .before .before) in
+    let f = s .fitting in
+    (omega (arith, f .0, s .square .small), omega (arith, f .1 .0, s .square .small), omega (arith, f .1 .1 .0, s .square .small))
 
--- src/lib.rt:28:1
 same-length : tie.Need-same-length
 same-length c = search needs
 
--- src/lib.rt:28:1
 same-length-2 : tie.Need-same-length-2
 same-length-2 c = search needs
 
--- src/lib.rt:28:1
 same-length-3 : tie.Need-same-length-3
 same-length-3 c = search needs
 
--- src/lib.rt:28:1
 returns-5 : tie.Need-returns-5
-returns-5 c = ?
+returns-5 c =
+    let b = c .before .before .before .before .before in
+    let d = b .before .before .before .before in
+    let g = d .before .before .before .before .before .before .before .grow .ensures .found (not-false _ (d .before .before .before .before .before .if4 .left)) in
+    let s = passed (d .before .before .before .before .before .before .before .before) in
+    let f = s .fitting in
+    let z : SFits w32 (d .before .completed .result .sum) = search needs in
+    routed s (f .0) (f .1 .0) (f .1 .1 .0) (search needs) (search needs) (search needs) (b .hand-out .ensures)
+    ((λ no. no _ (g .of-maxima .transversal)), tt) (ap gives (toZ-ofZ z)) (zero-simplest (g .least)) (d .before .completed .ensures)
 
 pub solve-spec : {M : Type 1} → statement M
 solve-spec =

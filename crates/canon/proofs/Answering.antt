@@ -4,13 +4,12 @@ use mathlib.Core.List.{List, [], _∷_}
 use Prim.Native.Nat.{ℕ, _+_, _-_, _≤_, _<_, min}
 use native.Mathlib.Omega.{arith}
 use lib.IntN.{ℤ, pos}
-use lib.ListN.{length, getD, take, length-take, replicate}
+use lib.ListN.{length, getD, take, length-take}
 use lib.Seq.{getD-take}
 use Rattle.theory.specs.Lists.{nums, ints, columns, StarList}
 use Rattle.theory.specs.Table.{entry}
-use Rattle.theory.specs.Canon.{LeastFrom, Simplest, Stars, Solution}
-use Rattle.theory.proofs.Unique.{solution-same, start-same}
-use Rattle.orders.proofs.Flags.{fresh}
+use Rattle.theory.specs.Canon.{Simplest, Stars, Solution}
+use Rattle.theory.proofs.Unique.{solution-same}
 use Rattle.orders.specs.Refusals.{Test, Clear, gives}
 use Rattle.outcome.specs.Completion.{WholeOf, HandedOut}
 use Rattle.outcome.specs.declared.Whole.{Whole}
@@ -19,13 +18,6 @@ use Rattle.handed.specs.Conditions.{basic}
 use Rattle.canon.specs.Promises.{Routed, answered}
 use Rattle.canon.proofs.Refusing.{Sound, past-clear}
 use Rattle.canon.specs.declared.Answer.{Answer}
-
--- zeros, as the code has them, are a start within every limit, and the least canon from them is the simplest
-pub zero-start : (b i : ℕ) → nums (replicate 32 0) i ≤ b
-zero-start b i = omega (arith, fresh {X = ℕ} 32 i 0)
-
-pub zero-simplest : {n : ℕ} {a : ℕ → ℕ → ℤ} {l : ℕ → ℕ} → LeastFrom n a (nums (replicate 32 0)) l → Simplest n a l
-zero-simplest {n} {a} f = start-same n a (λ i hi. fresh {X = ℕ} 32 i 0) f
 
 -- stars from 1 whose columns, from 0, are those of the first transversal are a star list
 star-list : {n : ℕ} {a : ℕ → ℕ → ℤ} {l : ℕ → ℕ} {s : List ℕ} → length s ≡ n → ((i : ℕ) → i < n → 1 ≤ nums s i) → Stars n a l (columns s) → StarList n s

@@ -3,3 +3,4 @@ pub mod Places
 pub mod Refusals
 pub mod Sweeps
 pub mod Flags
+pub mod Zeros

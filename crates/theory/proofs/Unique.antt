@@ -5,7 +5,7 @@ use Prim.Native.Nat.{ℕ, zero, suc, _+_, _≤_, _<_}
 use native.Mathlib.Decide.{decLt}
 use native.Mathlib.Omega.{arith}
 use lib.IntN.{ℤ}
-use Rattle.theory.specs.Canon.{Transversal, Maximum, OfMaxima, Canon, LeastFrom, Head, Heads, Before, Stars, sum, Index, Solution}
+use Rattle.theory.specs.Canon.{Transversal, Maximum, OfMaxima, Canon, LeastFrom, Head, Heads, Before, Stars, sum, Index, Misplaced, on-absent, exceeded, Solution}
 use Rattle.theory.proofs.Totals.{total-sameℤ}
 use Rattle.theory.proofs.Duality.{maxima-everywhere, head-once}
 
@@ -83,6 +83,13 @@ module _ (n : ℕ) (a : ℕ → ℕ → ℤ) where
         });
       }
 
+  pub sum-same : {σ τ : ℕ → ℕ} → Same σ τ → sum n a σ ≡ sum n a τ
+  sum-same {σ} {τ} e = total-sameℤ n (λ i. a i (σ i)) (λ i. a i (τ i)) (λ i hi. ap (a i) (e i hi))
+
+  pub misplaced-same : {σ τ : ℕ → ℕ} → Same σ τ → Misplaced n a σ → Misplaced n a τ
+  misplaced-same e (on-absent i hi p) = on-absent i hi (rw (← (e i hi)) p)
+  misplaced-same {σ} {τ} e (exceeded ρ t lt) = exceeded ρ t (rw (← (sum-same e)) lt)
+
   pub heads-once : {l m : ℕ → ℕ} {h k : ℕ → ℤ} → Same l m → Heads n a l h → Heads n a m k → Same h k
   heads-once e s t j hj = head-once n a (head-same e (s j hj)) (t j hj)
 
@@ -97,9 +104,6 @@ module _ (n : ℕ) (a : ℕ → ℕ → ℤ) where
         e (s .row) (s .inside),
         e (t .row) (t .inside),
       )
-
-  pub sum-same : {σ τ : ℕ → ℕ} → Same σ τ → sum n a σ ≡ sum n a τ
-  sum-same {σ} {τ} e = total-sameℤ n (λ i. a i (σ i)) (λ i. a i (τ i)) (λ i hi. ap (a i) (e i hi))
 
   -- what is said of additions, stars and heads is said of any that agree with them in the rows and columns
   pub least-same : {start l m : ℕ → ℕ} → Same l m → LeastFrom n a start l → LeastFrom n a start m

@@ -12,8 +12,9 @@ use mir.Syntax.{w32}
 use mir.Val.{SFits}
 use mir.Facts.{toZ-ofZ}
 use Rattle.orders.specs.Refusals.{gives}
+use Rattle.orders.proofs.Zeros.{zero-start, zero-simplest}
 use Rattle.canon.proofs.Refusing.{Sound, basic-own, refuse-size, refuse-lengths, refuse-entries, refuse-later, sound, past-clear}
-use Rattle.canon.proofs.Answering.{routed, zero-start, zero-simplest}
+use Rattle.canon.proofs.Answering.{routed}
 use Rattle.canon.proofs.solve.Statement.{statement}
 use Rattle.canon.proofs.solve.Tie as tie
 

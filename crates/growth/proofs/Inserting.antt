@@ -6,25 +6,25 @@ use Prim.Native.Nat.{ℕ, _+_, _*_, _≤_, _<_}
 use native.Mathlib.Decide.{decLt}
 use native.Mathlib.Omega.{arith}
 use lib.Dec.{T}
-use lib.IntN.{ℤ, pos, _+ℤ_}
-use lib.ListN.{length, set, length-set, replicate, getD-replicate}
-use lib.Signed.{_≤ℤ_, mag}
+use lib.IntN.{ℤ, pos}
+use lib.ListN.{set, length-set, replicate, getD-replicate}
+use lib.Signed.{mag}
 use Rattle.theory.specs.Limits.{rows, order, handed}
 use Rattle.theory.specs.Lists.{nums, ints, flags}
-use Rattle.theory.specs.Table.{Present, entry}
-use Rattle.theory.specs.Canon.{Transversal, OfMaxima, LeastFrom, Head, Heads}
+use Rattle.theory.specs.Table.{entry}
+use Rattle.theory.specs.Canon.{Transversal, OfMaxima, Heads}
 use Rattle.theory.proofs.Pigeonhole.{onto}
 use Rattle.theory.proofs.Signed.{up, dn, plus, signed}
-use Rattle.orders.specs.Places.{room, Marks}
+use Rattle.orders.specs.Places.{room}
 use Rattle.orders.proofs.Places.{within}
 use Rattle.growth.specs.declared.Least.{Least}
 use Rattle.growth.specs.declared.Grown.{Grown}
-use Rattle.growth.specs.Steps.{none, Long, Fitting, Joining, LookedAt, Rising, RisenBy}
-use Rattle.growth.specs.Standing.{climb, Tight, Standing, WayBack, Flipped, Ready, Meeting}
+use Rattle.growth.specs.Steps.{none, Long, Joining, LookedAt, Rising, RisenBy}
+use Rattle.growth.specs.Standing.{climb, Tight, Flipped, Ready, Meeting}
 use Rattle.growth.specs.Grown.{Startable, Whole}
 use Rattle.growth.proofs.Stores.{Put, put-nums, put-flags, unreached, unreached-less}
 use Rattle.growth.proofs.Growth.{by-flag, flag-set}
-use Rattle.growth.proofs.Insertion.{Search, Setting, put-new, search-start, search-look, search-stuck, rise-most, search-rise, rise-meets, search-way, search-join}
+use Rattle.growth.proofs.Insertion.{Search, Setting, search-start, search-look, search-stuck, rise-most, search-rise, rise-meets, search-way, search-join}
 
 mag-small : (z : ℤ) (b : ℕ) → up z ≤ b + dn z → dn z ≤ up z + b → mag z ≤ b
 mag-small (pos k) b p q = omega arith

@@ -1,8 +1,8 @@
 -- The passes over rows and columns, one place after the other: looking for the least gap, rising, the first heads. Assumes nothing.
-use mathlib.Core.Path.{_≡_, refl, sym, _∙_, ap}
-use mathlib.Core.Bool.{Bool, true, false, cond}
+use mathlib.Core.Path.{_≡_, refl, _∙_}
+use mathlib.Core.Bool.{Bool, true, false}
 use mathlib.Core.List.{List}
-use mathlib.Core.Logic.{_≢_, _⊎_, inl, inr}
+use mathlib.Core.Logic.{inl, inr}
 use Prim.Native.Nat.{ℕ, _+_, _*_, _≤_, _<_}
 use native.Mathlib.Decide.{ℕ-discrete}
 use native.Mathlib.Omega.{arith}
@@ -10,11 +10,10 @@ use lib.IntN.{ℤ, pos, _+ℤ_}
 use lib.ListN.{length, set, length-set}
 use lib.Signed.{mag}
 use mir.Syntax.{w32}
-use mir.Val.{SFits, toZ, ofZ}
-use mir.Facts.{toZ-ofZ}
+use mir.Val.{SFits}
 use Rattle.theory.specs.Lists.{nums, ints, flags}
 use Rattle.theory.specs.Limits.{order}
-use Rattle.theory.specs.Table.{Present, entry}
+use Rattle.theory.specs.Table.{entry}
 use Rattle.theory.specs.Canon.{Head, Transversal}
 use Rattle.theory.proofs.Pigeonhole.{onto}
 use Rattle.theory.proofs.Signed.{plus, signed, mag-up, mag-dn}
@@ -142,10 +141,6 @@ share-none : (b : Bool) → share 0 b ≡ 0
 share-none true = refl
 share-none false = refl
 
-pub share-most : (δ : ℕ) (b : Bool) → share δ b ≤ δ
-share-most δ true = omega arith
-share-most δ false = omega arith
-
 -- a rise by 0 changes nothing
 pub rise-none : {k δ : ℕ} {tree reached : List Bool} {l : List ℕ} {h : List ℤ} {gaps : List ℕ} → Long l × Long h × Long gaps → δ ≡ 0
     → RisenBy k δ tree reached l h gaps l h gaps
@@ -168,8 +163,8 @@ module _ {δ : ℕ} {tree reached : List Bool} {l : List ℕ} {h : List ℤ} {ga
 
   -- what the next place holds is small, and its gap no less than the rise
   module _ {k : ℕ} {l′ : List ℕ} {h′ : List ℤ} {g′ : List ℕ} (w : RisenTo k δ tree reached l h gaps l′ h′ g′) {n : ℕ} (r : Rising n δ l h gaps) (inside : k < n) where
-    pub rise-add : (b : Bool) {u : ℕ} → u ≡ share δ b → nums l′ k + u ≤ 3 * room
-    rise-add b e = omega (arith, share-most δ b, w .rest k (omega arith) .0, r .additions k inside, r .rise)
+    pub rise-add : {u : ℕ} → u ≤ δ → nums l′ k + u ≤ 3 * room
+    rise-add le = omega (arith, w .rest k (omega arith) .0, r .additions k inside, r .rise)
 
     pub rise-head : mag (ints h′ k) ≤ room + order
     rise-head = rw (w .rest k (omega arith) .1) (r .heads k inside)

@@ -1,13 +1,13 @@
 -- A store in an array, and counts of places. Assumes nothing.
-use mathlib.Core.Path.{_≡_, refl, sym, _∙_, ap}
+use mathlib.Core.Path.{_≡_, sym, _∙_, ap}
 use mathlib.Core.Bool.{Bool, true, false, cond}
 use mathlib.Core.List.{List}
 use mathlib.Core.Logic.{_≢_}
-use Prim.Native.Nat.{ℕ, zero, suc, _+_, _≤_, _<_}
+use Prim.Native.Nat.{ℕ, _+_, _≤_, _<_}
 use native.Mathlib.Decide.{ℕ-discrete}
 use native.Mathlib.Omega.{arith}
 use lib.IntN.{ℤ, pos}
-use lib.ListN.{getD, length, set, length-set}
+use lib.ListN.{getD, length, set}
 use lib.Seq.{getD-set-same, getD-set-other}
 use Rattle.theory.specs.Totals.{totalℕ}
 use Rattle.theory.specs.Lists.{nums, ints, flags}

@@ -9,7 +9,7 @@ use lib.ListN.{length}
 use lib.Signed.{_≤ℤ_, mag}
 use Rattle.theory.specs.Limits.{order, rows}
 use Rattle.theory.specs.Lists.{nums, ints, flags}
-use Rattle.theory.specs.Table.{absent, Present, entry}
+use Rattle.theory.specs.Table.{Present, entry}
 use Rattle.orders.specs.Places.{Square, room}
 use Rattle.growth.specs.declared.Least.{Least}
 

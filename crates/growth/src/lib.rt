@@ -1,5 +1,5 @@
 ghost use mathlib.Core.Path.{_≡_};
-ghost use Prim.Native.Nat.{ℕ, _+_, _*_, _≤_, _<_};
+ghost use Prim.Native.Nat.{_+_, _*_, _≤_, _<_};
 ghost use lib.IntN.{pos, _+ℤ_};
 ghost use lib.Signed.{mag};
 ghost use Rattle.theory.specs.Limits.{order};
@@ -121,7 +121,7 @@ fn look(
 
 // What a row or a column gets of a rise: all of it in the tree, else nothing.
 fn share(rise: u32, taken: bool) -> u32
-    ensures { λ r. ⌜ r ≡ share rise taken ⌝ }
+    ensures { λ r. ⌜ (r ≡ share rise taken) × (r ≤ rise) ⌝ }
 {
     if taken { rise } else { 0 }
 }

@@ -1,9 +1,9 @@
 -- The way back from an unmarked column to row s. Assumes nothing.
-use mathlib.Core.Path.{_≡_, _∙_}
-use Prim.Native.Nat.{ℕ, _≤_}
+use mathlib.Core.Path.{_∙_}
+use Prim.Native.Nat.{ℕ}
 use native.Mathlib.Omega.{arith}
 use lib.IntN.{ℤ}
-use lib.ListN.{set, length-set}
+use lib.ListN.{length-set}
 use Rattle.theory.specs.Lists.{nums}
 use Rattle.growth.specs.Steps.{Long}
 use Rattle.growth.specs.Standing.{WayBack}

@@ -61,7 +61,7 @@ nearer-requires c κs =
     let p = c .before .before .before .place in
     let j = c .before .before .before .before .before .before .before .loop .j in
     let f = s .pre .fitting j (omega arith) in
-    rw (toZ-ofZ (sfits-of (p .ok)), p .ensures, toZ-ofZ (head-fits (ints (s .args .heads .now) j) (f .head))) f
+    rw (toZ-ofZ {w = w16} {z = p .result} (sfits-of (p .ok)), p .ensures, toZ-ofZ (head-fits (ints (s .args .heads .now) j) (f .head))) f
 
 mul-gaps-2 : tie.Need-mul-gaps-2 Inv-loop μ-loop
 mul-gaps-2 c = omega arith

@@ -1,6 +1,6 @@
 -- Rows join the tree of row s, one after the other, until an unmarked column is tight. Assumes nothing.
 use mathlib.Core.List.{List}
-use Prim.Native.Nat.{ℕ, _≤_, _<_}
+use Prim.Native.Nat.{ℕ, _<_}
 use native.Mathlib.Omega.{arith}
 use Rattle.theory.specs.Lists.{flags}
 use Rattle.growth.specs.Steps.{none}

@@ -4,8 +4,8 @@ use Prim.Native.Nat.{_-_, _≤_}
 use native.Mathlib.Omega.{arith}
 use borrow.Author.Needs.{needs, sfits-of}
 use mir.Facts.{toZ-ofZ}
-use Rattle.theory.specs.Lists.{flags, ints}
-use Rattle.growth.proofs.Passes.{RisenTo, head-fits, share-most, rise-none, rise-start, rise-add, rise-head, rise-gap, rise-step}
+use Rattle.theory.specs.Lists.{ints}
+use Rattle.growth.proofs.Passes.{RisenTo, head-fits, rise-none, rise-start, rise-add, rise-head, rise-gap, rise-step}
 use Rattle.growth.proofs.rise_by.Statement.{statement}
 use Rattle.growth.proofs.rise_by.Tie as tie
 
@@ -39,7 +39,7 @@ add-additions : tie.Need-add-additions Inv-loop μ-loop
 add-additions c =
     let s = c .before .before .before .before .before .before in
     let v = c .before .before .before .before .loop in
-    omega (arith, rise-add (v .inv .1) (s .pre) (omega arith) (flags (s .args .tree .now) (v .i)) (c .share .ensures))
+    omega (arith, rise-add (v .inv .1) (s .pre) (omega arith) (c .share .ensures .1))
 
 mul-additions-2 : tie.Need-mul-additions-2 Inv-loop μ-loop
 mul-additions-2 c = omega arith
@@ -65,7 +65,7 @@ lift-requires c κs =
     let v = c .before .before .before .before .before .before .before .loop in
     let m = rise-head (v .inv .1) (s .pre) (omega arith) in (
       rw (toZ-ofZ (head-fits (ints (v .heads) (v .i)) m)) m,
-      omega (arith, c .share2 .ensures, share-most (s .args .rise) (flags (s .args .reached .now) (v .i)), s .pre .rise),
+      omega (arith, c .share2 .ensures .1, s .pre .rise),
     )
 
 mul-t19 : tie.Need-mul-t19 Inv-loop μ-loop
@@ -106,8 +106,8 @@ loop-again c =
     let f = head-fits (ints (v .heads) (v .i)) (rise-head w (s .pre) (omega arith)) in (
       omega arith,
       rw (toZ-ofZ (sfits-of (l .ok)))
-          (rise-step w (omega (arith, s .pre .small)) (c .before .before .before .before .before .before .share .ensures)
-          (rw (c .before .before .before .share2 .ensures) at (simp (toZ-ofZ f) at (l .ensures))) (c .lowered .ensures)),
+          (rise-step w (omega (arith, s .pre .small)) (c .before .before .before .before .before .before .share .ensures .0)
+          (rw (c .before .before .before .share2 .ensures .0) at (simp (toZ-ofZ f) at (l .ensures))) (c .lowered .ensures)),
     )
 
 returns-2 : tie.Need-returns-2 Inv-loop μ-loop

@@ -43,16 +43,16 @@ module _ {t : List ℤ} {n : ℕ} {start : ℕ → ℕ} {s : ℕ} {l₀ : List �
       record { small = rd .square .small; inserting = hs; limits = rd .orders; handed-in = λ i hi. omega (arith, rd .handed-in i hi) }
 
   pub begin : Long l₀ → Long h₀ → {givers : List ℕ} → Long givers
-      → Searching t n start s l₀ h₀ ρ κ (replicate 32 false) (replicate 32 false) (replicate 32 none) givers s
+      → Searching t n start s l₀ h₀ ρ κ (replicate rows false) (replicate rows false) (replicate rows none) givers s
   begin el eh eg =
       record {
         inside = hs;
         long = (el, eh, refl, eg, refl, refl);
         search =
-            search-start setting (rd .standing) (rd .top) (λ i hi. getD-replicate 32 i false false (omega (arith, rd .square .small)))
-            (λ j hj. getD-replicate 32 j false false (omega (arith, rd .square .small)))
-            (λ j hj. getD-replicate {A = ℕ} 32 j none 0 (omega (arith, rd .square .small)))
-            (put-flags (replicate 32 false) s true (omega (arith, rd .square .small)));
+            search-start setting (rd .standing) (rd .top) (λ i hi. getD-replicate rows i false false (omega (arith, rd .square .small)))
+            (λ j hj. getD-replicate rows j false false (omega (arith, rd .square .small)))
+            (λ j hj. getD-replicate {A = ℕ} rows j none 0 (omega (arith, rd .square .small)))
+            (put-flags (replicate rows false) s true (omega (arith, rd .square .small)));
       }
 
   module _ {l : List ℕ} {h : List ℤ} {tree reached : List Bool} {gaps givers : List ℕ} {row : ℕ}
@@ -193,7 +193,7 @@ inserted {t} {n} rd {l} {h} m f =
 
 -- ---- before the first insertion
 pub first-ready : {t : List ℤ} {n : ℕ} {start : List ℕ} {h : List ℤ} → Startable t n start → Heads n (entry t n) (nums start) (ints h)
-    → Ready t n (nums start) 0 start h (replicate 32 32) (replicate 32 32)
+    → Ready t n (nums start) 0 start h (replicate rows rows) (replicate rows rows)
 first-ready {t} {n} {start} {h} c heads =
     record {
       square = c .square;
@@ -201,7 +201,7 @@ first-ready {t} {n} {start} {h} c heads =
       handed-in = c .handed-in;
       standing = record {
         marking = record {
-          row = λ j hj m. absurd (omega (arith, getD-replicate {A = ℕ} 32 j 32 0 (omega (arith, c .square .small)), c .square .small));
+          row = λ j hj m. absurd (omega (arith, getD-replicate {A = ℕ} rows j rows 0 (omega (arith, c .square .small)), c .square .small));
           column = λ i hi. absurd (omega arith);
         };
         under = λ i j hi hj here.

@@ -12,7 +12,7 @@ use lib.Signed.{mag}
 use mir.Syntax.{w32}
 use mir.Val.{SFits}
 use Rattle.theory.specs.Lists.{nums, ints, flags}
-use Rattle.theory.specs.Limits.{order}
+use Rattle.theory.specs.Limits.{rows, order}
 use Rattle.theory.specs.Table.{entry}
 use Rattle.theory.specs.Canon.{Head, Transversal}
 use Rattle.theory.proofs.Pigeonhole.{onto}
@@ -35,8 +35,8 @@ pub record Looking (t : List ℤ) (n k row : ℕ) (l : List ℕ) (h : List ℤ) 
   pub rest : (x : ℕ) → k ≤ x → (nums g x ≡ nums gaps x) × (nums p x ≡ nums givers x)
 
 module _ {t : List ℤ} {n row : ℕ} {l : List ℕ} {h : List ℤ} {reached : List Bool} {gaps givers : List ℕ} where
-  pub look-start : length gaps ≡ 32 → length givers ≡ 32 → Looking t n 0 row l h reached gaps givers gaps givers (record { gap = none; column = 0 })
-  look-start e f =
+  pub look-start : Long gaps × Long givers → Looking t n 0 row l h reached gaps givers gaps givers (record { gap = none; column = 0 })
+  look-start long =
       record {
         looked = record {
           ways = λ j hj. absurd (omega arith);
@@ -44,7 +44,8 @@ module _ {t : List ℤ} {n row : ℕ} {l : List ℕ} {h : List ℤ} {reached : L
           least = λ j hj. absurd (omega arith);
           most = omega arith;
           column = λ lt. absurd (omega arith);
-          long = (e, f);
+          fits = omega arith;
+          long = long;
         };
         rest = λ x hx. (refl, refl);
       }
@@ -65,6 +66,7 @@ module _ {t : List ℤ} {n row : ℕ} {l : List ℕ} {h : List ℤ} {reached : L
             column = λ lt.
                 let c = w .looked .column lt in
                 (omega (arith, c .0), c .1, c .2);
+            fits = w .looked .fits;
             long = w .looked .long;
           };
           rest = λ x hx. w .rest x (omega arith);
@@ -77,7 +79,7 @@ module _ {t : List ℤ} {n row : ℕ} {l : List ℕ} {h : List ℤ} {reached : L
               | no ne ↦ omega arith
             ]
 
-    module _ (small : k < 32) (e : flags reached k ≡ false) (g₁ p₁ : ℕ) (b₁ : Least)
+    module _ (small : k < rows) (e : flags reached k ≡ false) (g₁ p₁ : ℕ) (b₁ : Least)
         (near : Nearer (entry t n row k) (nums l row) (ints h k) row (nums g k) (nums p k) g₁ p₁) (less : Lesser b g₁ k b₁) where
       put-gap : Put (nums g) (nums (set g k g₁)) k g₁
       put-gap = put-nums g k g₁ (omega (arith, w .looked .long .0))
@@ -124,6 +126,7 @@ module _ {t : List ℤ} {n row : ℕ} {l : List ℕ} {h : List ℤ} {reached : L
               least = look-least;
               most = omega (arith, less .that, w .looked .most);
               column = look-column;
+              fits = elim (less .one) [ inl q ↦ rw q (w .looked .fits) | inr q ↦ rw (q .1) small ];
               long = (length-set g k g₁ ∙ w .looked .long .0, length-set p k p₁ ∙ w .looked .long .1);
             };
             rest = λ x hx.
@@ -172,7 +175,7 @@ module _ {δ : ℕ} {tree reached : List Bool} {l : List ℕ} {h : List ℤ} {ga
     pub rise-gap : nums g′ k < none → δ ≤ nums g′ k
     rise-gap = rw (w .rest k (omega arith) .2) (r .gap k inside)
 
-  module _ {k : ℕ} {l′ : List ℕ} {h′ : List ℤ} {g′ : List ℕ} (w : RisenTo k δ tree reached l h gaps l′ h′ g′) (small : k < 32)
+  module _ {k : ℕ} {l′ : List ℕ} {h′ : List ℤ} {g′ : List ℕ} (w : RisenTo k δ tree reached l h gaps l′ h′ g′) (small : k < rows)
       {u : ℕ} {v : ℤ} {d : ℕ} (eu : u ≡ share δ (flags tree k)) (ev : v ≡ ints h′ k +ℤ pos (share δ (flags reached k))) (ed : Lowered δ (nums g′ k) d) where
     pub rise-step : RisenTo (k + 1) δ tree reached l h gaps (set l′ k (nums l′ k + u)) (set h′ k v) (set g′ k d)
     rise-step =
@@ -207,9 +210,9 @@ module _ {δ : ℕ} {tree reached : List Bool} {l : List ℕ} {h : List ℤ} {ga
 -- h has the heads of the first k columns
 pub record HeadsTo (t : List ℤ) (n k : ℕ) (l : List ℕ) (h : List ℤ) : Type 0 where
   pub heads : (j : ℕ) → j < k → Head n (entry t n) (nums l) j (ints h j)
-  pub long : length h ≡ 32
+  pub long : Long h
 
-pub heads-step : {t : List ℤ} {n k : ℕ} {l : List ℕ} {h : List ℤ} → HeadsTo t n k l h → k < 32 → {r : Top} → TopOf t n n l k r
+pub heads-step : {t : List ℤ} {n k : ℕ} {l : List ℕ} {h : List ℤ} → HeadsTo t n k l h → k < rows → {r : Top} → TopOf t n n l k r
     → r .present ≡ true → HeadsTo t n (k + 1) l (set h k (r .head))
 heads-step {t} {n} {k} {l} {h} w small {r} top e =
     record {

@@ -57,6 +57,7 @@ pub record LookedAt (t : List ℤ) (n k row : ℕ) (l : List ℕ) (h : List ℤ)
   pub most : r .gap ≤ none
   pub column : r .gap < none
       → (r .column < k) × (flags reached (r .column) ≡ false) × (nums gaps′ (r .column) ≡ r .gap)
+  pub fits : r .column < rows
   pub long : Long gaps′ × Long givers′
 
 -- what a row or a column gets of a rise by δ: all of it, or nothing

@@ -27,7 +27,7 @@ element-copy-out-addition : tie.Need-element-copy-out-addition Inv-loop μ-loop
 element-copy-out-addition c = omega (arith, c .pre .inside, c .pre .square .small)
 
 loop-holds : tie.Need-loop-holds Inv-loop μ-loop
-loop-holds c = (omega arith, look-start (c .before .pre .long .0) (c .before .pre .long .1))
+loop-holds c = (omega arith, look-start (c .before .pre .long))
 
 element-copy-out-if1 : tie.Need-element-copy-out-if1 Inv-loop μ-loop
 element-copy-out-if1 c = omega arith

@@ -64,24 +64,10 @@ rise-by-requires c κs =
     rising (p .ready) (p .inside) o (k .ensures) lt
 
 mul-if2 : tie.Need-mul-if2 Inv-loop μ-loop
-mul-if2 c =
-    let s = c .before .before .before .before .before .before .before .before .before .before .before .before .before .before in
-    let v = c .before .before .before .before .before .before .before .before .before .before .before .before .before .loop in
-    let k = c .before .before .before .before .before .before .before .look in
-    let lt : k .result .gap < none = omega (arith, k .ensures .most, c .before .before .before .before .before .before .if1 .left) in
-    let p = s .pre .0 .ready in
-    let o = v .inv (p .start) (s .pre .0 .column-of) (p .ready) in
-    omega (arith, end-inside (p .ready) (p .inside) o (k .ensures) lt, p .ready .square .small)
+mul-if2 c = omega (arith, c .before .before .before .before .before .before .before .look .ensures .fits)
 
 element-copy-out-if2 : tie.Need-element-copy-out-if2 Inv-loop μ-loop
-element-copy-out-if2 c =
-    let s = c .before .before .before .before .before .before .before .before .before .before .before .before .before .before in
-    let v = c .before .before .before .before .before .before .before .before .before .before .before .before .before .loop in
-    let k = c .before .before .before .before .before .before .before .look in
-    let lt : k .result .gap < none = omega (arith, k .ensures .most, c .before .before .before .before .before .before .if1 .left) in
-    let p = s .pre .0 .ready in
-    let o = v .inv (p .start) (s .pre .0 .column-of) (p .ready) in
-    omega (arith, end-inside (p .ready) (p .inside) o (k .ensures) lt, p .ready .square .small)
+element-copy-out-if2 c = omega (arith, c .before .before .before .before .before .before .before .look .ensures .fits)
 
 returns-2 : tie.Need-returns-2 Inv-loop μ-loop
 returns-2 c =
@@ -99,54 +85,19 @@ returns-2 c =
     }
 
 array-write-reached : tie.Need-array-write-reached Inv-loop μ-loop
-array-write-reached c =
-    let s = c .before .before .before .before .before .before .before .before .before .before .before .before .before .before .before .before in
-    let v = c .before .before .before .before .before .before .before .before .before .before .before .before .before .before .before .loop in
-    let k = c .before .before .before .before .before .before .before .before .before .look in
-    let lt : k .result .gap < none = omega (arith, k .ensures .most, c .before .before .before .before .before .before .before .before .if1 .left) in
-    let p = s .pre .0 .ready in
-    let o = v .inv (p .start) (s .pre .0 .column-of) (p .ready) in
-    omega (arith, end-inside (p .ready) (p .inside) o (k .ensures) lt, p .ready .square .small)
+array-write-reached c = omega (arith, c .before .before .before .before .before .before .before .before .before .look .ensures .fits)
 
 mul-gaps : tie.Need-mul-gaps Inv-loop μ-loop
-mul-gaps c =
-    let s = c .before .before .before .before .before .before .before .before .before .before .before .before .before .before .before .before in
-    let v = c .before .before .before .before .before .before .before .before .before .before .before .before .before .before .before .loop in
-    let k = c .before .before .before .before .before .before .before .before .before .look in
-    let lt : k .result .gap < none = omega (arith, k .ensures .most, c .before .before .before .before .before .before .before .before .if1 .left) in
-    let p = s .pre .0 .ready in
-    let o = v .inv (p .start) (s .pre .0 .column-of) (p .ready) in
-    omega (arith, end-inside (p .ready) (p .inside) o (k .ensures) lt, p .ready .square .small)
+mul-gaps c = omega (arith, c .before .before .before .before .before .before .before .before .before .look .ensures .fits)
 
 array-write-gaps : tie.Need-array-write-gaps Inv-loop μ-loop
-array-write-gaps c =
-    let s = c .before .before .before .before .before .before .before .before .before .before .before .before .before .before .before .before in
-    let v = c .before .before .before .before .before .before .before .before .before .before .before .before .before .before .before .loop in
-    let k = c .before .before .before .before .before .before .before .before .before .look in
-    let lt : k .result .gap < none = omega (arith, k .ensures .most, c .before .before .before .before .before .before .before .before .if1 .left) in
-    let p = s .pre .0 .ready in
-    let o = v .inv (p .start) (s .pre .0 .column-of) (p .ready) in
-    omega (arith, end-inside (p .ready) (p .inside) o (k .ensures) lt, p .ready .square .small)
+array-write-gaps c = omega (arith, c .before .before .before .before .before .before .before .before .before .look .ensures .fits)
 
 mul-row : tie.Need-mul-row Inv-loop μ-loop
-mul-row c =
-    let s = c .before .before .before .before .before .before .before .before .before .before .before .before .before .before .before .before in
-    let v = c .before .before .before .before .before .before .before .before .before .before .before .before .before .before .before .loop in
-    let k = c .before .before .before .before .before .before .before .before .before .look in
-    let lt : k .result .gap < none = omega (arith, k .ensures .most, c .before .before .before .before .before .before .before .before .if1 .left) in
-    let p = s .pre .0 .ready in
-    let o = v .inv (p .start) (s .pre .0 .column-of) (p .ready) in
-    omega (arith, end-inside (p .ready) (p .inside) o (k .ensures) lt, p .ready .square .small)
+mul-row c = omega (arith, c .before .before .before .before .before .before .before .before .before .look .ensures .fits)
 
 element-copy-out-row : tie.Need-element-copy-out-row Inv-loop μ-loop
-element-copy-out-row c =
-    let s = c .before .before .before .before .before .before .before .before .before .before .before .before .before .before .before .before in
-    let v = c .before .before .before .before .before .before .before .before .before .before .before .before .before .before .before .loop in
-    let k = c .before .before .before .before .before .before .before .before .before .look in
-    let lt : k .result .gap < none = omega (arith, k .ensures .most, c .before .before .before .before .before .before .before .before .if1 .left) in
-    let p = s .pre .0 .ready in
-    let o = v .inv (p .start) (s .pre .0 .column-of) (p .ready) in
-    omega (arith, end-inside (p .ready) (p .inside) o (k .ensures) lt, p .ready .square .small)
+element-copy-out-row c = omega (arith, c .before .before .before .before .before .before .before .before .before .look .ensures .fits)
 
 loop-less : tie.Need-loop-less Inv-loop μ-loop
 loop-less c =

@@ -1,7 +1,6 @@
 -- The way back from an unmarked column to the row that is inserted: each row on the way takes the column that it gives. At each step
 -- one column, the open one, waits for a row of the tree that is tight there. Assumes nothing.
 use mathlib.Core.Path.{_≡_, refl, sym, _∙_, ap}
-use mathlib.Core.List.{List}
 use mathlib.Core.Logic.{_≢_}
 use Prim.Native.Nat.{ℕ, _+_, _≤_, _<_}
 use native.Mathlib.Decide.{ℕ-discrete}

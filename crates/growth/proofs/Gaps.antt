@@ -1,17 +1,17 @@
 -- A gap in 32 bits, the nearer of two ways, the lesser of two gaps. Assumes nothing.
-use mathlib.Core.Path.{_≡_, refl, sym, _∙_}
-use mathlib.Core.Logic.{_⊎_, inl, inr}
+use mathlib.Core.Path.{_≡_, refl}
+use mathlib.Core.Logic.{inl, inr}
 use Prim.Native.Nat.{ℕ, _+_, _≤_, _<_}
 use native.Mathlib.Omega.{arith}
 use lib.Dec.{T}
 use lib.IntN.{ℤ, pos, _+ℤ_, _-ℤ_, natAbs}
-use lib.Signed.{_≤ℤ_, mag, nonNeg}
+use lib.Signed.{nonNeg}
 use mir.Syntax.{w16, w32}
 use mir.Val.{SFits, Fits, toZ, ofZ}
 use mir.Facts.{toZ-ofZ}
 use Rattle.theory.specs.Table.{absent, Present}
-use Rattle.theory.proofs.Signed.{up, dn, plus, minus, signed, mag-up, mag-dn, ud-nonNeg, natAbs-is, dn-none}
-use Rattle.growth.specs.Steps.{none, Fitting, Nearer, Lesser, Lowered}
+use Rattle.theory.proofs.Signed.{dn, plus, minus, signed, mag-up, mag-dn, ud-nonNeg, natAbs-is, dn-none}
+use Rattle.growth.specs.Steps.{none, Fitting, Nearer, Lesser}
 use Rattle.growth.specs.declared.Least.{Least}
 
 -- ---- head less raised order, which is x

@@ -1,8 +1,7 @@
 -- The two lemmas that carry the growing: G1, a rise of the tree passes no canon, and G2, a tree with no way out means that there is
 -- no complete transversal. Assumes nothing.
-use mathlib.Core.Path.{_≡_, refl, sym, ap}
-use mathlib.Core.Bool.{Bool, true, false, not, cond}
-use mathlib.Core.Logic.{_≢_}
+use mathlib.Core.Path.{_≡_, refl, ap}
+use mathlib.Core.Bool.{Bool, true, false, not}
 use Prim.Native.Nat.{ℕ, zero, suc, _+_, _≤_, _<_}
 use native.Mathlib.Decide.{decLe, decLt}
 use native.Mathlib.Omega.{arith}
@@ -10,7 +9,7 @@ use lib.Dec.{T}
 use lib.IntN.{ℤ, pos, _+ℤ_}
 use lib.Signed.{_≤ℤ_}
 use Rattle.theory.specs.Table.{Present}
-use Rattle.theory.specs.Canon.{Transversal, OfMaxima, Canon, AtLeast}
+use Rattle.theory.specs.Canon.{Transversal, OfMaxima, AtLeast}
 use Rattle.theory.proofs.Pigeonhole.{closed-onto, dec-flag, dec-both}
 use Rattle.theory.proofs.Signed.{plus, signed}
 use Rattle.growth.specs.Standing.{Tight, Marking, Standing}

@@ -5,27 +5,26 @@ use mathlib.Core.List.{List}
 use Prim.Native.Nat.{ℕ, _+_, _*_, _≤_, _<_}
 use native.Mathlib.Decide.{decLt}
 use native.Mathlib.Omega.{arith}
-use lib.IntN.{ℤ, pos, _+ℤ_}
-use lib.ListN.{length, set, length-set, replicate, getD-replicate}
-use lib.Signed.{_≤ℤ_, mag}
+use lib.Dec.{T}
+use lib.IntN.{ℤ, pos}
+use lib.ListN.{set, length-set, replicate, getD-replicate}
+use lib.Signed.{mag}
 use Rattle.theory.specs.Limits.{rows, order, handed}
 use Rattle.theory.specs.Lists.{nums, ints, flags}
-use Rattle.theory.specs.Table.{Present, entry}
-use Rattle.theory.specs.Canon.{Transversal, OfMaxima, LeastFrom, Head, Heads}
+use Rattle.theory.specs.Table.{entry}
+use Rattle.theory.specs.Canon.{Transversal, OfMaxima, Heads}
 use Rattle.theory.proofs.Pigeonhole.{onto}
 use Rattle.theory.proofs.Signed.{up, dn, plus, signed}
-use Rattle.orders.specs.Places.{room, Marks}
+use Rattle.orders.specs.Places.{room}
 use Rattle.orders.proofs.Places.{within}
-use Rattle.growth.specs.declared.Looked.{Looked}
-use Rattle.growth.specs.declared.Risen.{Risen}
-use Rattle.growth.specs.declared.Marked.{Marked}
+use Rattle.growth.specs.declared.Least.{Least}
 use Rattle.growth.specs.declared.Grown.{Grown}
-use Rattle.growth.specs.Steps.{none, Fitting, Joining, LookedAt, Rising, RisenBy}
-use Rattle.growth.specs.Standing.{climb, Tight, Standing, WayBack, Flipped, Ready}
+use Rattle.growth.specs.Steps.{none, Long, Joining, LookedAt, Rising, RisenBy}
+use Rattle.growth.specs.Standing.{climb, Tight, Flipped, Ready, Meeting}
 use Rattle.growth.specs.Grown.{Startable, Whole}
 use Rattle.growth.proofs.Stores.{Put, put-nums, put-flags, unreached, unreached-less}
 use Rattle.growth.proofs.Growth.{by-flag, flag-set}
-use Rattle.growth.proofs.Insertion.{Search, Setting, put-new, search-start, search-look, search-stuck, rise-most, search-rise, rise-meets, search-way, search-join}
+use Rattle.growth.proofs.Insertion.{Search, Setting, search-start, search-look, search-stuck, rise-most, search-rise, rise-meets, search-way, search-join}
 
 mag-small : (z : ℤ) (b : ℕ) → up z ≤ b + dn z → dn z ≤ up z + b → mag z ≤ b
 mag-small (pos k) b p q = omega arith
@@ -34,7 +33,7 @@ mag-small (lib.IntN.negsuc k) b p q = omega arith
 -- an insertion of row s under way, whose row `row` joins the tree next
 pub record Searching (t : List ℤ) (n : ℕ) (start : ℕ → ℕ) (s : ℕ) (l : List ℕ) (h : List ℤ) (ρ κ : List ℕ) (tree reached : List Bool) (gaps givers : List ℕ) (row : ℕ) : Type 0 where
   pub inside : row < n
-  pub long : (length tree ≡ 32) × (length reached ≡ 32)
+  pub long : Long l × Long h × Long gaps × Long givers × Long tree × Long reached
   pub search : Search n (entry t n) start s (handed + s * climb) (nums l) (ints h) (nums ρ) (nums κ) (flags tree) (flags (set tree row true)) (flags reached)
       (nums gaps) (nums givers)
 
@@ -43,151 +42,158 @@ module _ {t : List ℤ} {n : ℕ} {start : ℕ → ℕ} {s : ℕ} {l₀ : List �
   setting =
       record { small = rd .square .small; inserting = hs; limits = rd .orders; handed-in = λ i hi. omega (arith, rd .handed-in i hi) }
 
-  pub begin : Searching t n start s l₀ h₀ ρ κ (replicate 32 false) (replicate 32 false) (replicate 32 none) (replicate 32 0) s
-  begin =
+  pub begin : Long l₀ → Long h₀ → {givers : List ℕ} → Long givers
+      → Searching t n start s l₀ h₀ ρ κ (replicate rows false) (replicate rows false) (replicate rows none) givers s
+  begin el eh eg =
       record {
         inside = hs;
-        long = (refl, refl);
+        long = (el, eh, refl, eg, refl, refl);
         search =
-            search-start setting (rd .standing) (rd .top) (λ i hi. getD-replicate 32 i false false (omega (arith, rd .square .small)))
-            (λ j hj. getD-replicate 32 j false false (omega (arith, rd .square .small)))
-            (λ j hj. getD-replicate {A = ℕ} 32 j none 0 (omega (arith, rd .square .small)))
-            (put-flags (replicate 32 false) s true (omega (arith, rd .square .small)));
+            search-start setting (rd .standing) (rd .top) (λ i hi. getD-replicate rows i false false (omega (arith, rd .square .small)))
+            (λ j hj. getD-replicate rows j false false (omega (arith, rd .square .small)))
+            (λ j hj. getD-replicate {A = ℕ} rows j none 0 (omega (arith, rd .square .small)))
+            (put-flags (replicate rows false) s true (omega (arith, rd .square .small)));
       }
 
   module _ {l : List ℕ} {h : List ℤ} {tree reached : List Bool} {gaps givers : List ℕ} {row : ℕ}
       (o : Searching t n start s l h ρ κ tree reached gaps givers row) where
-    w : Search n (entry t n) start s (handed + s * climb) (nums l) (ints h) (nums ρ) (nums κ) (flags tree) (flags (set tree row true)) (flags reached)
-        (nums gaps) (nums givers)
-    w = o .search
-
-    hr : row < n
-    hr = o .inside
-
     addition-room : (i : ℕ) → i < n → nums l i ≤ handed + s * climb + climb
     addition-room i hi =
-        by-flag (flags (set tree row true) i) (λ e. w .reach .inside i hi (flag-set e)) (λ e. omega (arith, w .reach .outside i hi e))
+        let w = o .search .reach in
+        by-flag (flags (set tree row true) i) (λ e. w .inside i hi (flag-set e)) (λ e. omega (arith, w .outside i hi e))
 
     -- a head is the raised order of a marked place, or one of the start
     head-room : (j : ℕ) → j < n → mag (ints h j) ≤ room + order
     head-room j hj =
+        let w = o .search .standing in
         elim (decLt (nums ρ j) n) [
           | yes m ↦
-              let k = w .standing .marking .row j hj m .2 in
-              let o = rd .orders (nums ρ j) j m hj (k .present) in
+              let k = w .marking .row j hj m .2 in
+              let v = rd .orders (nums ρ j) j m hj (k .present) in
               let top = addition-room (nums ρ j) m in
               let p = plus (entry t n (nums ρ j) j) (pos (nums l (nums ρ j))) in
-              mag-small (ints h j) (room + order) (omega (arith, signed, k .is, o .high, top, p, rd .square .small))
-              (omega (arith, signed, k .is, o .low, p))
+              mag-small (ints h j) (room + order) (omega (arith, signed, k .is, v .high, top, p, rd .square .small))
+              (omega (arith, signed, k .is, v .low, p))
           | no nm ↦
-              let f = w .standing .first j hj (omega arith) in
-              let o = rd .orders (f .row) j (f .inside) hj (f .maximum .present) in
+              let f = w .first j hj (omega arith) in
+              let v = rd .orders (f .row) j (f .inside) hj (f .maximum .present) in
               let p = plus (entry t n (f .row) j) (pos (start (f .row))) in
-              mag-small (ints h j) (room + order) (omega (arith, signed, f .is, o .high, rd .handed-in (f .row) (f .inside), p))
-              (omega (arith, signed, f .is, o .low, p))
+              mag-small (ints h j) (room + order) (omega (arith, signed, f .is, v .high, rd .handed-in (f .row) (f .inside), p))
+              (omega (arith, signed, f .is, v .low, p))
         ]
 
-    pub joining : Joining t n row l h
+    pub joining : Joining t n row l h gaps givers
     joining =
         record {
           square = rd .square;
-          inside = hr;
+          inside = o .inside;
           fitting = λ j hj.
               record {
-                addition = omega (arith, addition-room row hr, rd .square .small);
+                addition = omega (arith, addition-room row (o .inside), rd .square .small);
                 head = head-room j hj;
-                below = w .standing .under row j hr hj;
+                below = o .search .standing .under row j (o .inside) hj;
               };
+          long = (o .long .2, o .long .3);
         }
 
-    module _ {r : Looked} (k : LookedAt t n n row l h reached gaps givers r) where
-      put-row : Put (flags tree) (flags (set tree row true)) row true
-      put-row = put-flags tree row true (omega (arith, hr, o .long .0, rd .square .small))
-
+    module _ {g p : List ℕ} {r : Least} (k : LookedAt t n n row l h reached gaps givers g p r) where
       looked : Search n (entry t n) start s (handed + s * climb) (nums l) (ints h) (nums ρ) (nums κ) (flags (set tree row true))
-          (flags (set tree row true)) (flags reached) (nums (r .gaps)) (nums (r .givers))
-      looked = search-look setting w hr put-row (k .ways) (k .kept)
+          (flags (set tree row true)) (flags reached) (nums g) (nums p)
+      looked =
+          search-look setting (o .search) (o .inside) (put-flags tree row true (omega (arith, o .inside, o .long .4, rd .square .small))) (k .ways) (k .kept)
 
       -- no way out of the tree
-      pub closed : none ≤ r .least .gap → (σ : ℕ → ℕ) → Transversal n (entry t n) σ → ⊥
-      closed wide = search-stuck setting looked (r .least .gap) (k .least) wide
+      pub closed : none ≤ r .gap → (σ : ℕ → ℕ) → Transversal n (entry t n) σ → ⊥
+      closed wide = search-stuck setting looked (r .gap) (k .least) wide
 
-      module _ (lt : r .least .gap < none) where
-        pub end-inside : r .least .column < n
+      module _ (lt : r .gap < none) where
+        pub end-inside : r .column < n
         end-inside = k .column lt .0
 
-        pub rising : Rising n (r .least .gap) l h (r .gaps)
+        pub rising : Rising n (r .gap) l h g
         rising =
             let c = k .column lt in
             record {
+              long = (o .long .0, o .long .1, k .long .0);
               small = rd .square .small;
-              rise = omega (arith, rise-most setting looked (r .least .gap) (k .least) (r .least .column) (c .0) (c .1) (c .2) lt, rd .square .small);
+              rise = omega (arith, rise-most setting looked (r .gap) (k .least) (r .column) (c .0) (c .1) (c .2) lt, rd .square .small);
               additions = λ i hi. omega (arith, addition-room i hi, rd .square .small);
               heads = head-room;
               gap = λ j hj q.
                   by-flag (flags reached j) (λ e. absurd (omega (arith, looked .done j hj e))) (λ e. k .least j hj e);
             }
 
-        module _ {z : Risen} (v : RisenBy n (r .least .gap) (set tree row true) reached l h (r .gaps) z) where
-          risen : Search n (entry t n) start s (handed + s * climb) (nums (z .additions)) (ints (z .heads)) (nums ρ) (nums κ)
-              (flags (set tree row true)) (flags (set tree row true)) (flags reached) (nums (z .gaps)) (nums (r .givers))
+        module _ {l′ : List ℕ} {h′ : List ℤ} {g′ : List ℕ} (v : RisenBy n (r .gap) (set tree row true) reached l h g l′ h′ g′) where
+          risen : Search n (entry t n) start s (handed + s * climb) (nums l′) (ints h′) (nums ρ) (nums κ) (flags (set tree row true))
+              (flags (set tree row true)) (flags reached) (nums g′) (nums p)
           risen =
               let c = k .column lt in
-              search-rise setting looked (r .least .gap) (k .least) (r .least .column) (c .0) (c .1) (c .2) lt (v .addition) (v .head) (v .gap)
+              search-rise setting looked (r .gap) (k .least) (r .column) (c .0) (c .1) (c .2) lt (v .addition) (v .head) (v .gap)
+
+          meets : (nums p (r .column) < n) × T (flags (set tree row true) (nums p (r .column))) × Tight n (entry t n) (nums l′) (ints h′) (nums p (r .column)) (r .column)
+          meets =
+              let c = k .column lt in
+              rise-meets setting looked (r .gap) (k .least) (r .column) (c .0) (c .1) (c .2) lt (v .addition) (v .head) (v .gap)
 
           -- the column of the least gap is unmarked: the way back begins there
-          pub way : n ≤ nums ρ (r .least .column)
-              → WayBack n (entry t n) s (nums (z .additions)) (ints (z .heads)) (nums ρ) (nums κ) (nums (r .givers)) (r .least .column)
-          way free =
-              let c = k .column lt in
-              search-way setting risen (r .least .column) (c .0) (c .1)
-              (rise-meets setting looked (r .least .gap) (k .least) (r .least .column) (c .0) (c .1) (c .2) lt (v .addition) (v .head) (v .gap)) free
-
-          pub inserted : n ≤ nums ρ (r .least .column) → {m : Marked} → Flipped s (r .least .column) (r .givers) ρ κ m
-              → Ready t n start (s + 1) (z .additions) (z .heads) (m .rows) (m .columns)
-          inserted free {m} f =
+          pub meeting : n ≤ nums ρ (r .column) → Meeting t n start s l′ h′ ρ κ p (r .column)
+          meeting free =
               record {
-                square = rd .square;
-                orders = rd .orders;
-                handed-in = rd .handed-in;
-                standing = record {
-                  marking = f .marking n (entry t n) (nums (z .additions)) (ints (z .heads)) (way free);
-                  under = risen .standing .under;
-                  first = λ j hj q. risen .standing .first j hj (f .unmarked n (entry t n) (nums (z .additions)) (ints (z .heads)) (way free) j hj q);
-                  from-start = risen .standing .from-start;
-                  least = risen .standing .least;
-                };
+                standing = risen .standing;
+                way = search-way setting risen (r .column) end-inside (k .column lt .1) meets free;
                 top = λ i hi.
                     by-flag (flags (set tree row true) i) (λ e. omega (arith, risen .reach .inside i hi (flag-set e)))
                     (λ e. omega (arith, risen .reach .outside i hi e));
               }
 
           -- it is marked: its row joins the tree
-          module _ (m : nums ρ (r .least .column) < n) where
-            put-column : Put (flags reached) (flags (set reached (r .least .column) true)) (r .least .column) true
-            put-column = put-flags reached (r .least .column) true (omega (arith, o .long .1, end-inside, rd .square .small))
+          module _ (m : nums ρ (r .column) < n) where
+            put-column : Put (flags reached) (flags (set reached (r .column) true)) (r .column) true
+            put-column = put-flags reached (r .column) true (omega (arith, o .long .5, end-inside, rd .square .small))
 
-            pub fewer : unreached n (flags (set reached (r .least .column) true)) < unreached n (flags reached)
+            pub fewer : unreached n (flags (set reached (r .column) true)) < unreached n (flags reached)
             fewer = omega (arith, unreached-less n end-inside (k .column lt .1) put-column)
 
-            pub joined : length (z .gaps) ≡ 32
-                → Searching t n start s (z .additions) (z .heads) ρ κ (set tree row true) (set reached (r .least .column) true)
-                (set (z .gaps) (r .least .column) none) (r .givers) (nums ρ (r .least .column))
-            joined gaps-long =
-                let c = k .column lt in
+            pub joined : Searching t n start s l′ h′ ρ κ (set tree row true) (set reached (r .column) true) (set g′ (r .column) none) p (nums ρ (r .column))
+            joined =
                 record {
                   inside = m;
-                  long = (length-set tree row true ∙ o .long .0, length-set reached (r .least .column) true ∙ o .long .1);
+                  long = (
+                    v .long .0,
+                    v .long .1,
+                    length-set g′ (r .column) none ∙ v .long .2,
+                    k .long .1,
+                    length-set tree row true ∙ o .long .4,
+                    length-set reached (r .column) true ∙ o .long .5,
+                  );
                   search =
-                      search-join setting risen (r .least .column) (c .0) (c .1)
-                      (rise-meets setting looked (r .least .gap) (k .least) (r .least .column) (c .0) (c .1) (c .2) lt (v .addition) (v .head) (v .gap)) m
-                      (put-flags (set tree row true) (nums ρ (r .least .column)) true (omega (arith, length-set tree row true, o .long .0, rd .square .small))) put-column
-                      (put-nums (z .gaps) (r .least .column) none (omega (arith, gaps-long, end-inside, rd .square .small)));
+                      search-join setting risen (r .column) end-inside (k .column lt .1) meets m
+                      (put-flags (set tree row true) (nums ρ (r .column)) true (omega (arith, length-set tree row true, o .long .4, rd .square .small)))
+                      put-column (put-nums g′ (r .column) none (omega (arith, v .long .2, end-inside, rd .square .small)));
                 }
+
+-- the way back is gone: row s has its mark, and the rows below s + 1 are inserted
+pub inserted : {t : List ℤ} {n : ℕ} {start : ℕ → ℕ} {s : ℕ} {l₀ : List ℕ} {h₀ : List ℤ} {ρ κ : List ℕ} → Ready t n start s l₀ h₀ ρ κ
+    → {l : List ℕ} {h : List ℤ} {givers : List ℕ} {end : ℕ} → Meeting t n start s l h ρ κ givers end
+    → {ρ′ κ′ : List ℕ} → Flipped s end givers ρ κ ρ′ κ′ → Ready t n start (s + 1) l h ρ′ κ′
+inserted {t} {n} rd {l} {h} m f =
+    record {
+      square = rd .square;
+      orders = rd .orders;
+      handed-in = rd .handed-in;
+      standing = record {
+        marking = f .marking n (entry t n) (nums l) (ints h) (m .way);
+        under = m .standing .under;
+        first = λ j hj q. m .standing .first j hj (f .unmarked n (entry t n) (nums l) (ints h) (m .way) j hj q);
+        from-start = m .standing .from-start;
+        least = m .standing .least;
+      };
+      top = m .top;
+    }
 
 -- ---- before the first insertion
 pub first-ready : {t : List ℤ} {n : ℕ} {start : List ℕ} {h : List ℤ} → Startable t n start → Heads n (entry t n) (nums start) (ints h)
-    → Ready t n (nums start) 0 start h (replicate 32 32) (replicate 32 32)
+    → Ready t n (nums start) 0 start h (replicate rows rows) (replicate rows rows)
 first-ready {t} {n} {start} {h} c heads =
     record {
       square = c .square;
@@ -195,7 +201,7 @@ first-ready {t} {n} {start} {h} c heads =
       handed-in = c .handed-in;
       standing = record {
         marking = record {
-          row = λ j hj m. absurd (omega (arith, getD-replicate {A = ℕ} 32 j 32 0 (omega (arith, c .square .small)), c .square .small));
+          row = λ j hj m. absurd (omega (arith, getD-replicate {A = ℕ} rows j rows 0 (omega (arith, c .square .small)), c .square .small));
           column = λ i hi. absurd (omega arith);
         };
         under = λ i j hi hj here.

@@ -1,21 +1,21 @@
 -- The steps of an insertion, over functions of rows and columns: the tree begins at one row; a row joins it and the gaps take it in;
 -- the tree rises; it joins the marked row of the column that became tight, or the way back begins there. Assumes nothing.
 use mathlib.Core.Path.{_≡_, refl, sym, _∙_, ap}
-use mathlib.Core.Bool.{Bool, true, false, not, cond}
-use mathlib.Core.Logic.{_≢_, _⊎_, inl, inr}
-use Prim.Native.Nat.{ℕ, zero, suc, _+_, _*_, _≤_, _<_}
+use mathlib.Core.Bool.{Bool, true, false, not}
+use mathlib.Core.Logic.{_≢_, inl, inr}
+use Prim.Native.Nat.{ℕ, suc, _+_, _*_, _≤_, _<_}
 use native.Mathlib.Decide.{ℕ-discrete, decLt}
 use native.Mathlib.Omega.{arith}
 use lib.Dec.{T}
 use lib.IntN.{ℤ, pos, _+ℤ_}
 use lib.Signed.{_≤ℤ_}
-use Rattle.theory.specs.Limits.{rows, order, handed}
+use Rattle.theory.specs.Limits.{rows, order}
 use Rattle.theory.specs.Table.{Present, WithinLimit}
-use Rattle.theory.specs.Canon.{Transversal, Canon, AtLeast, Head}
+use Rattle.theory.specs.Canon.{Transversal}
 use Rattle.theory.proofs.Pigeonhole.{choose, choose-yes, choose-no}
 use Rattle.theory.proofs.Signed.{plus, signed}
 use Rattle.growth.specs.Steps.{none, Nearer, share, Lowered}
-use Rattle.growth.specs.Standing.{climb, Tight, Marking, Standing, WayBack}
+use Rattle.growth.specs.Standing.{climb, Tight, Standing, WayBack}
 use Rattle.growth.proofs.Stores.{Put, after, unreached, unreached-all, unreached-less}
 use Rattle.growth.proofs.Growth.{by-flag, flag-set, flag-is, flag-clash, Tree, stuck, growth}
 

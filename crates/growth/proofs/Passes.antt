@@ -1,8 +1,8 @@
 -- The passes over rows and columns, one place after the other: looking for the least gap, rising, the first heads. Assumes nothing.
-use mathlib.Core.Path.{_≡_, refl, sym, _∙_, ap}
-use mathlib.Core.Bool.{Bool, true, false, cond}
+use mathlib.Core.Path.{_≡_, refl, _∙_}
+use mathlib.Core.Bool.{Bool, true, false}
 use mathlib.Core.List.{List}
-use mathlib.Core.Logic.{_≢_, _⊎_, inl, inr}
+use mathlib.Core.Logic.{inl, inr}
 use Prim.Native.Nat.{ℕ, _+_, _*_, _≤_, _<_}
 use native.Mathlib.Decide.{ℕ-discrete}
 use native.Mathlib.Omega.{arith}
@@ -10,11 +10,10 @@ use lib.IntN.{ℤ, pos, _+ℤ_}
 use lib.ListN.{length, set, length-set}
 use lib.Signed.{mag}
 use mir.Syntax.{w32}
-use mir.Val.{SFits, toZ, ofZ}
-use mir.Facts.{toZ-ofZ}
+use mir.Val.{SFits}
 use Rattle.theory.specs.Lists.{nums, ints, flags}
-use Rattle.theory.specs.Limits.{order}
-use Rattle.theory.specs.Table.{Present, entry}
+use Rattle.theory.specs.Limits.{rows, order}
+use Rattle.theory.specs.Table.{entry}
 use Rattle.theory.specs.Canon.{Head, Transversal}
 use Rattle.theory.proofs.Pigeonhole.{onto}
 use Rattle.theory.proofs.Signed.{plus, signed, mag-up, mag-dn}
@@ -22,7 +21,7 @@ use Rattle.orders.specs.Places.{room, TopOf}
 use Rattle.orders.specs.declared.Top.{Top}
 use Rattle.orders.proofs.Entries.{clash}
 use Rattle.growth.specs.declared.Least.{Least}
-use Rattle.growth.specs.Steps.{none, Nearer, Lesser, LookedAt, share, Lowered, Rising, RisenBy}
+use Rattle.growth.specs.Steps.{none, Long, Nearer, Lesser, LookedAt, share, Lowered, Rising, RisenBy}
 use Rattle.growth.proofs.Stores.{Put, after, put-nums, put-ints}
 
 -- a head that is small enough fits
@@ -32,13 +31,12 @@ head-fits h small = omega (arith, signed, mag-up h, mag-dn h)
 -- ---- the least gap
 -- the ways into the first k columns are looked at, the others are as they were
 pub record Looking (t : List ℤ) (n k row : ℕ) (l : List ℕ) (h : List ℤ) (reached : List Bool) (gaps givers g p : List ℕ) (b : Least) : Type 0 where
-  pub looked : LookedAt t n k row l h reached gaps givers (record { gaps = g; givers = p; least = b })
+  pub looked : LookedAt t n k row l h reached gaps givers g p b
   pub rest : (x : ℕ) → k ≤ x → (nums g x ≡ nums gaps x) × (nums p x ≡ nums givers x)
-  pub long : (length g ≡ 32) × (length p ≡ 32)
 
 module _ {t : List ℤ} {n row : ℕ} {l : List ℕ} {h : List ℤ} {reached : List Bool} {gaps givers : List ℕ} where
-  pub look-start : length gaps ≡ 32 → length givers ≡ 32 → Looking t n 0 row l h reached gaps givers gaps givers (record { gap = none; column = 0 })
-  look-start e f =
+  pub look-start : Long gaps × Long givers → Looking t n 0 row l h reached gaps givers gaps givers (record { gap = none; column = 0 })
+  look-start long =
       record {
         looked = record {
           ways = λ j hj. absurd (omega arith);
@@ -46,9 +44,10 @@ module _ {t : List ℤ} {n row : ℕ} {l : List ℕ} {h : List ℤ} {reached : L
           least = λ j hj. absurd (omega arith);
           most = omega arith;
           column = λ lt. absurd (omega arith);
+          fits = omega arith;
+          long = long;
         };
         rest = λ x hx. (refl, refl);
-        long = (e, f);
       }
 
   module _ {k : ℕ} {g p : List ℕ} {b : Least} (w : Looking t n k row l h reached gaps givers g p b) where
@@ -67,9 +66,10 @@ module _ {t : List ℤ} {n row : ℕ} {l : List ℕ} {h : List ℤ} {reached : L
             column = λ lt.
                 let c = w .looked .column lt in
                 (omega (arith, c .0), c .1, c .2);
+            fits = w .looked .fits;
+            long = w .looked .long;
           };
           rest = λ x hx. w .rest x (omega arith);
-          long = w .long;
         }
       where
         other : (j : ℕ) → j < k + 1 → flags reached j ≡ false → j < k
@@ -79,13 +79,13 @@ module _ {t : List ℤ} {n row : ℕ} {l : List ℕ} {h : List ℤ} {reached : L
               | no ne ↦ omega arith
             ]
 
-    module _ (small : k < 32) (e : flags reached k ≡ false) (g₁ p₁ : ℕ) (b₁ : Least)
+    module _ (small : k < rows) (e : flags reached k ≡ false) (g₁ p₁ : ℕ) (b₁ : Least)
         (near : Nearer (entry t n row k) (nums l row) (ints h k) row (nums g k) (nums p k) g₁ p₁) (less : Lesser b g₁ k b₁) where
       put-gap : Put (nums g) (nums (set g k g₁)) k g₁
-      put-gap = put-nums g k g₁ (omega (arith, w .long .0))
+      put-gap = put-nums g k g₁ (omega (arith, w .looked .long .0))
 
       put-giver : Put (nums p) (nums (set p k p₁)) k p₁
-      put-giver = put-nums p k p₁ (omega (arith, w .long .1))
+      put-giver = put-nums p k p₁ (omega (arith, w .looked .long .1))
 
       look-ways : (j : ℕ) → j < k + 1 → flags reached j ≡ false
           → Nearer (entry t n row j) (nums l row) (ints h j) row (nums gaps j) (nums givers j) (nums (set g k g₁) j) (nums (set p k p₁) j)
@@ -120,32 +120,34 @@ module _ {t : List ℤ} {n row : ℕ} {l : List ℕ} {h : List ℤ} {reached : L
       pub look-take : Looking t n (k + 1) row l h reached gaps givers (set g k g₁) (set p k p₁) b₁
       look-take =
           record {
-            looked = record { ways = look-ways; kept = look-kept; least = look-least; most = omega (arith, less .that, w .looked .most); column = look-column };
+            looked = record {
+              ways = look-ways;
+              kept = look-kept;
+              least = look-least;
+              most = omega (arith, less .that, w .looked .most);
+              column = look-column;
+              fits = elim (less .one) [ inl q ↦ rw q (w .looked .fits) | inr q ↦ rw (q .1) small ];
+              long = (length-set g k g₁ ∙ w .looked .long .0, length-set p k p₁ ∙ w .looked .long .1);
+            };
             rest = λ x hx.
                 let r = w .rest x (omega arith) in
                 (put-gap .off x (omega arith) ∙ r .0, put-giver .off x (omega arith) ∙ r .1);
-            long = (length-set g k g₁ ∙ w .long .0, length-set p k p₁ ∙ w .long .1);
           }
 
 -- ---- a rise
 -- the first k rows and columns are risen, the others are as they were
 pub record RisenTo (k δ : ℕ) (tree reached : List Bool) (l : List ℕ) (h : List ℤ) (gaps l′ : List ℕ) (h′ : List ℤ) (g′ : List ℕ) : Type 0 where
-  pub risen : RisenBy k δ tree reached l h gaps (record { additions = l′; heads = h′; gaps = g′ })
+  pub risen : RisenBy k δ tree reached l h gaps l′ h′ g′
   pub rest : (x : ℕ) → k ≤ x → (nums l′ x ≡ nums l x) × (ints h′ x ≡ ints h x) × (nums g′ x ≡ nums gaps x)
-  pub long : (length l′ ≡ 32) × (length h′ ≡ 32) × (length g′ ≡ 32)
 
 share-none : (b : Bool) → share 0 b ≡ 0
 share-none true = refl
 share-none false = refl
 
-pub share-most : (δ : ℕ) (b : Bool) → share δ b ≤ δ
-share-most δ true = omega arith
-share-most δ false = omega arith
-
 -- a rise by 0 changes nothing
-pub rise-none : (k δ : ℕ) (tree reached : List Bool) (l : List ℕ) (h : List ℤ) (gaps : List ℕ) → length gaps ≡ 32 → δ ≡ 0
-    → RisenBy k δ tree reached l h gaps (record { additions = l; heads = h; gaps = gaps })
-rise-none k δ tree reached l h gaps long e =
+pub rise-none : {k δ : ℕ} {tree reached : List Bool} {l : List ℕ} {h : List ℤ} {gaps : List ℕ} → Long l × Long h × Long gaps → δ ≡ 0
+    → RisenBy k δ tree reached l h gaps l h gaps
+rise-none {k} {δ} {tree} {reached} {l} {h} {gaps} long e =
     rw e
     record {
       addition = λ i hi. omega (arith, share-none (flags tree i));
@@ -155,18 +157,17 @@ rise-none k δ tree reached l h gaps long e =
     }
 
 module _ {δ : ℕ} {tree reached : List Bool} {l : List ℕ} {h : List ℤ} {gaps : List ℕ} where
-  pub rise-start : length l ≡ 32 → length h ≡ 32 → length gaps ≡ 32 → RisenTo 0 δ tree reached l h gaps l h gaps
-  rise-start e f g =
+  pub rise-start : Long l × Long h × Long gaps → RisenTo 0 δ tree reached l h gaps l h gaps
+  rise-start long =
       record {
-        risen = record { addition = λ i hi. absurd (omega arith); head = λ j hj. absurd (omega arith); gap = λ j hj. absurd (omega arith); long = g };
+        risen = record { addition = λ i hi. absurd (omega arith); head = λ j hj. absurd (omega arith); gap = λ j hj. absurd (omega arith); long = long };
         rest = λ x hx. (refl, refl, refl);
-        long = (e, f, g);
       }
 
   -- what the next place holds is small, and its gap no less than the rise
   module _ {k : ℕ} {l′ : List ℕ} {h′ : List ℤ} {g′ : List ℕ} (w : RisenTo k δ tree reached l h gaps l′ h′ g′) {n : ℕ} (r : Rising n δ l h gaps) (inside : k < n) where
-    pub rise-add : (b : Bool) {u : ℕ} → u ≡ share δ b → nums l′ k + u ≤ 3 * room
-    rise-add b e = omega (arith, share-most δ b, w .rest k (omega arith) .0, r .additions k inside, r .rise)
+    pub rise-add : {u : ℕ} → u ≤ δ → nums l′ k + u ≤ 3 * room
+    rise-add le = omega (arith, w .rest k (omega arith) .0, r .additions k inside, r .rise)
 
     pub rise-head : mag (ints h′ k) ≤ room + order
     rise-head = rw (w .rest k (omega arith) .1) (r .heads k inside)
@@ -174,7 +175,7 @@ module _ {δ : ℕ} {tree reached : List Bool} {l : List ℕ} {h : List ℤ} {ga
     pub rise-gap : nums g′ k < none → δ ≤ nums g′ k
     rise-gap = rw (w .rest k (omega arith) .2) (r .gap k inside)
 
-  module _ {k : ℕ} {l′ : List ℕ} {h′ : List ℤ} {g′ : List ℕ} (w : RisenTo k δ tree reached l h gaps l′ h′ g′) (small : k < 32)
+  module _ {k : ℕ} {l′ : List ℕ} {h′ : List ℤ} {g′ : List ℕ} (w : RisenTo k δ tree reached l h gaps l′ h′ g′) (small : k < rows)
       {u : ℕ} {v : ℤ} {d : ℕ} (eu : u ≡ share δ (flags tree k)) (ev : v ≡ ints h′ k +ℤ pos (share δ (flags reached k))) (ed : Lowered δ (nums g′ k) d) where
     pub rise-step : RisenTo (k + 1) δ tree reached l h gaps (set l′ k (nums l′ k + u)) (set h′ k v) (set g′ k d)
     rise-step =
@@ -189,30 +190,29 @@ module _ {δ : ℕ} {tree reached : List Bool} {l : List ℕ} {h : List ℤ} {ga
             gap = λ j hj.
                 after (λ x y. Lowered δ (nums gaps x) y) pg j (λ q. rw (← (w .rest k (omega arith) .2)) ed)
                 (λ ne. w .risen .gap j (omega arith));
-            long = length-set g′ k d ∙ w .long .2;
+            long = (length-set l′ k (nums l′ k + u) ∙ w .risen .long .0, length-set h′ k v ∙ w .risen .long .1, length-set g′ k d ∙ w .risen .long .2);
           };
           rest = λ x hx.
               let r = w .rest x (omega arith) in
               (pl .off x (omega arith) ∙ r .0, ph .off x (omega arith) ∙ r .1, pg .off x (omega arith) ∙ r .2);
-          long = (length-set l′ k (nums l′ k + u) ∙ w .long .0, length-set h′ k v ∙ w .long .1, length-set g′ k d ∙ w .long .2);
         }
       where
         pl : Put (nums l′) (nums (set l′ k (nums l′ k + u))) k (nums l′ k + u)
-        pl = put-nums l′ k (nums l′ k + u) (omega (arith, w .long .0))
+        pl = put-nums l′ k (nums l′ k + u) (omega (arith, w .risen .long .0))
 
         ph : Put (ints h′) (ints (set h′ k v)) k v
-        ph = put-ints h′ k v (omega (arith, w .long .1))
+        ph = put-ints h′ k v (omega (arith, w .risen .long .1))
 
         pg : Put (nums g′) (nums (set g′ k d)) k d
-        pg = put-nums g′ k d (omega (arith, w .long .2))
+        pg = put-nums g′ k d (omega (arith, w .risen .long .2))
 
 -- ---- the first heads
 -- h has the heads of the first k columns
 pub record HeadsTo (t : List ℤ) (n k : ℕ) (l : List ℕ) (h : List ℤ) : Type 0 where
   pub heads : (j : ℕ) → j < k → Head n (entry t n) (nums l) j (ints h j)
-  pub long : length h ≡ 32
+  pub long : Long h
 
-pub heads-step : {t : List ℤ} {n k : ℕ} {l : List ℕ} {h : List ℤ} → HeadsTo t n k l h → k < 32 → {r : Top} → TopOf t n n l k r
+pub heads-step : {t : List ℤ} {n k : ℕ} {l : List ℕ} {h : List ℤ} → HeadsTo t n k l h → k < rows → {r : Top} → TopOf t n n l k r
     → r .present ≡ true → HeadsTo t n (k + 1) l (set h k (r .head))
 heads-step {t} {n} {k} {l} {h} w small {r} top e =
     record {

@@ -1,14 +1,15 @@
 -- A store in an array, and counts of places. Assumes nothing.
-use mathlib.Core.Path.{_≡_, refl, sym, _∙_, ap}
+use mathlib.Core.Path.{_≡_, sym, _∙_, ap}
 use mathlib.Core.Bool.{Bool, true, false, cond}
 use mathlib.Core.List.{List}
 use mathlib.Core.Logic.{_≢_}
-use Prim.Native.Nat.{ℕ, zero, suc, _+_, _≤_, _<_}
+use Prim.Native.Nat.{ℕ, _+_, _≤_, _<_}
 use native.Mathlib.Decide.{ℕ-discrete}
 use native.Mathlib.Omega.{arith}
 use lib.IntN.{ℤ, pos}
-use lib.ListN.{getD, length, set, length-set}
+use lib.ListN.{getD, length, set}
 use lib.Seq.{getD-set-same, getD-set-other}
+use Rattle.theory.specs.Limits.{rows}
 use Rattle.theory.specs.Totals.{totalℕ}
 use Rattle.theory.specs.Lists.{nums, ints, flags}
 use Rattle.theory.proofs.Pigeonhole.{choose, choose-yes, choose-no}
@@ -67,14 +68,14 @@ unreached-less n {f} {f′} {k} h e p =
 
 -- ---- places of an array that are as they were
 pub same : (ℕ → ℕ) → (ℕ → ℕ) → ℕ
-same f f′ = totalℕ 32 (λ x. choose (ℕ-discrete (f′ x) (f x)) 1 0)
+same f f′ = totalℕ rows (λ x. choose (ℕ-discrete (f′ x) (f x)) 1 0)
 
-pub same-less : (f : ℕ → ℕ) {g g′ : ℕ → ℕ} {k v : ℕ} → k < 32 → Put g g′ k v → g k ≡ f k → v ≢ f k → same f g′ < same f g
+pub same-less : (f : ℕ → ℕ) {g g′ : ℕ → ℕ} {k v : ℕ} → k < rows → Put g g′ k v → g k ≡ f k → v ≢ f k → same f g′ < same f g
 unfolding same
 same-less f {g} {g′} {k} {v} h p e ne =
     omega (
       arith,
-      total-change 32 (λ x. choose (ℕ-discrete (g x) (f x)) 1 0) (λ x. choose (ℕ-discrete (g′ x) (f x)) 1 0) k h
+      total-change rows (λ x. choose (ℕ-discrete (g x) (f x)) 1 0) (λ x. choose (ℕ-discrete (g′ x) (f x)) 1 0) k h
           (λ x hx nx. ap (λ (y : ℕ). choose (ℕ-discrete y (f x)) 1 0) (p .off x nx)),
       choose-yes (ℕ-discrete (g k) (f k)) 1 0 e,
       choose-no (ℕ-discrete (g′ k) (f k)) 1 0 (λ q. ne (sym (p .at) ∙ q)),

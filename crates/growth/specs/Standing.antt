@@ -4,16 +4,14 @@ use mathlib.Core.Bool.{Bool, true, false}
 use mathlib.Core.List.{List}
 use Prim.Native.Nat.{ℕ, _+_, _*_, _≤_, _<_}
 use lib.Dec.{T}
-use lib.IntN.{ℤ, pos}
+use lib.IntN.{ℤ}
 use lib.Signed.{_≤ℤ_}
 use Rattle.theory.specs.Limits.{rows, order, handed}
 use Rattle.theory.specs.Lists.{nums, ints}
 use Rattle.theory.specs.Table.{Present, entry, WithinLimit}
 use Rattle.theory.specs.Canon.{Transversal, raised, Canon, AtLeast, Head, Heads}
 use Rattle.orders.specs.Places.{Square}
-use Rattle.growth.specs.declared.Grown.{Grown}
-use Rattle.growth.specs.declared.Marked.{Marked}
-use Rattle.growth.specs.declared.FirstHeads.{FirstHeads}
+use Rattle.growth.specs.Steps.{Long}
 
 -- what one insertion adds at most to the largest addition
 abbrev pub climb : ℕ
@@ -62,15 +60,17 @@ pub record SomeWay (s end : ℕ) (givers row-of column-of : List ℕ) : Type 0 w
   pub l : ℕ → ℕ
   pub h : ℕ → ℤ
   pub way : WayBack n a s l h (nums row-of) (nums column-of) (nums givers) end
+  pub long : Long row-of × Long column-of
 
--- r has the marks after every such way back was gone: row s has its mark too, and no column has lost its own
-pub record Flipped (s end : ℕ) (givers row-of column-of : List ℕ) (r : Marked) : Type 0 where
+-- the marks after every such way back was gone: row s has its mark too, and no column has lost its own
+pub record Flipped (s end : ℕ) (givers row-of column-of row-of′ column-of′ : List ℕ) : Type 0 where
   pub marking : (n : ℕ) (a : ℕ → ℕ → ℤ) (l : ℕ → ℕ) (h : ℕ → ℤ) → WayBack n a s l h (nums row-of) (nums column-of) (nums givers) end
-      → Marking n a (s + 1) l h (nums (r .rows)) (nums (r .columns))
+      → Marking n a (s + 1) l h (nums row-of′) (nums column-of′)
   pub unmarked : (n : ℕ) (a : ℕ → ℕ → ℤ) (l : ℕ → ℕ) (h : ℕ → ℤ) → WayBack n a s l h (nums row-of) (nums column-of) (nums givers) end
-      → (j : ℕ) → j < n → n ≤ nums (r .rows) j → n ≤ nums row-of j
+      → (j : ℕ) → j < n → n ≤ nums row-of′ j → n ≤ nums row-of j
+  pub long : Long row-of′ × Long column-of′
 
--- the same of what the code holds, with no addition beyond what s insertions can make of an addition handed in
+-- what the code holds when the rows below s are inserted, with no addition beyond what s insertions can make of one handed in
 pub record Ready (t : List ℤ) (n : ℕ) (start : ℕ → ℕ) (s : ℕ) (l : List ℕ) (h : List ℤ) (row-of column-of : List ℕ) : Type 0 where
   pub square : Square t n
   pub orders : WithinLimit order n (entry t n)
@@ -78,19 +78,39 @@ pub record Ready (t : List ℤ) (n : ℕ) (start : ℕ → ℕ) (s : ℕ) (l : L
   pub standing : Standing n (entry t n) start s (nums l) (ints h) (nums row-of) (nums column-of)
   pub top : (i : ℕ) → i < n → nums l i ≤ handed + s * climb
 
--- ready from some start
-pub record SomeReady (t : List ℤ) (n s : ℕ) (w : Grown) : Type 0 where
+-- ready to insert row s, from some start
+pub record SomeReady (t : List ℤ) (n s : ℕ) (l : List ℕ) (h : List ℤ) (row-of column-of : List ℕ) : Type 0 where
   pub inside : s < n
   pub start : ℕ → ℕ
-  pub ready : Ready t n start s (w .additions) (w .heads) (w .rows) (w .columns)
+  pub ready : Ready t n start s l h row-of column-of
+  pub long : Long l × Long h × Long row-of × Long column-of
 
--- row s is inserted, from whatever start w came; or there is no complete transversal
-pub record Inserted (t : List ℤ) (n s : ℕ) (w r : Grown) : Type 0 where
-  pub found : r .found ≡ true → (start : ℕ → ℕ) → Ready t n start s (w .additions) (w .heads) (w .rows) (w .columns)
-      → Ready t n start (s + 1) (r .additions) (r .heads) (r .rows) (r .columns)
-  pub none : r .found ≡ false → (σ : ℕ → ℕ) → Transversal n (entry t n) σ → ⊥
+-- the same, with some columns of the rows
+pub record SomeColumns (t : List ℤ) (n s : ℕ) (l : List ℕ) (h : List ℤ) (row-of : List ℕ) : Type 0 where
+  pub column-of : List ℕ
+  pub ready : SomeReady t n s l h row-of column-of
 
--- the heads of all columns under the start, or there is a column with no order, and so no complete transversal
-pub record FirstOf (t : List ℤ) (n : ℕ) (start : List ℕ) (r : FirstHeads) : Type 0 where
-  pub heads : r .present ≡ true → Heads n (entry t n) (nums start) (ints (r .heads))
-  pub none : r .present ≡ false → (σ : ℕ → ℕ) → Transversal n (entry t n) σ → ⊥
+-- the additions and the heads have risen so far that there is a way back from the column `end` to row s
+pub record Meeting (t : List ℤ) (n : ℕ) (start : ℕ → ℕ) (s : ℕ) (l : List ℕ) (h : List ℤ) (row-of column-of givers : List ℕ) (end : ℕ) : Type 0 where
+  pub standing : Standing n (entry t n) start s (nums l) (ints h) (nums row-of) (nums column-of)
+  pub way : WayBack n (entry t n) s (nums l) (ints h) (nums row-of) (nums column-of) (nums givers) end
+  pub top : (i : ℕ) → i < n → nums l i ≤ handed + (s + 1) * climb
+
+-- such a column is met, from whatever start and with whatever columns of the rows; or there is no complete transversal
+pub record Met (t : List ℤ) (n s : ℕ) (l : List ℕ) (h : List ℤ) (row-of : List ℕ) (end : ℕ) (l′ : List ℕ) (h′ : List ℤ) (givers : List ℕ) : Type 0 where
+  pub meets : end < n → (start : ℕ → ℕ) (column-of : List ℕ) → Ready t n start s l h row-of column-of
+      → Meeting t n start s l′ h′ row-of column-of givers end
+  pub none : n ≤ end → (σ : ℕ → ℕ) → Transversal n (entry t n) σ → ⊥
+  pub long : Long l′ × Long h′
+
+-- row s is inserted, from whatever start; or there is no complete transversal
+pub record Inserted (t : List ℤ) (n s : ℕ) (l : List ℕ) (h : List ℤ) (row-of column-of : List ℕ) (found : Bool) (l′ : List ℕ) (h′ : List ℤ) (row-of′ column-of′ : List ℕ) : Type 0 where
+  pub ready : found ≡ true → (start : ℕ → ℕ) → Ready t n start s l h row-of column-of → Ready t n start (s + 1) l′ h′ row-of′ column-of′
+  pub none : found ≡ false → (σ : ℕ → ℕ) → Transversal n (entry t n) σ → ⊥
+  pub long : Long l′ × Long h′ × Long row-of′ × Long column-of′
+
+-- the heads of all columns under the start; or a column has no order, and so there is no complete transversal
+pub record FirstOf (t : List ℤ) (n : ℕ) (start : List ℕ) (found : Bool) (h : List ℤ) : Type 0 where
+  pub heads : found ≡ true → Heads n (entry t n) (nums start) (ints h)
+  pub none : found ≡ false → (σ : ℕ → ℕ) → Transversal n (entry t n) σ → ⊥
+  pub long : Long h

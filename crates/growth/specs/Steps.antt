@@ -9,15 +9,17 @@ use lib.ListN.{length}
 use lib.Signed.{_≤ℤ_, mag}
 use Rattle.theory.specs.Limits.{order, rows}
 use Rattle.theory.specs.Lists.{nums, ints, flags}
-use Rattle.theory.specs.Table.{absent, Present, entry}
+use Rattle.theory.specs.Table.{Present, entry}
 use Rattle.orders.specs.Places.{Square, room}
-use Rattle.growth.specs.declared.Looked.{Looked}
 use Rattle.growth.specs.declared.Least.{Least}
-use Rattle.growth.specs.declared.Risen.{Risen}
 
 -- what stands for the gap of a column in which no row of the tree has an order; a gap is below it
 abbrev pub none : ℕ
 none = 4294967295
+
+-- the list of an array, which has room for the largest table
+abbrev pub Long : {X : Type 0} → List X → Type 0
+Long l = length l ≡ rows
 
 -- an order v, if it is present, in a row with the addition l and a column with the head h: all small enough to be reckoned with
 pub record Fitting (v : ℤ) (l : ℕ) (h : ℤ) : Type 0 where
@@ -39,21 +41,24 @@ pub record Lesser (least : Least) (g j : ℕ) (r : Least) : Type 0 where
   pub this : r .gap ≤ g
 
 -- what is known of a row that joins the tree: its gaps can be reckoned
-pub record Joining (t : List ℤ) (n row : ℕ) (l : List ℕ) (h : List ℤ) : Type 0 where
+pub record Joining (t : List ℤ) (n row : ℕ) (l : List ℕ) (h : List ℤ) (gaps givers : List ℕ) : Type 0 where
   pub square : Square t n
   pub inside : row < n
   pub fitting : (j : ℕ) → j < n → Fitting (entry t n row j) (nums l row) (ints h j)
+  pub long : Long gaps × Long givers
 
 -- The ways into the first k columns, of which those reached are as they were and the others take the row in; and the least gap of
 -- the others.
-pub record LookedAt (t : List ℤ) (n k row : ℕ) (l : List ℕ) (h : List ℤ) (reached : List Bool) (gaps givers : List ℕ) (r : Looked) : Type 0 where
+pub record LookedAt (t : List ℤ) (n k row : ℕ) (l : List ℕ) (h : List ℤ) (reached : List Bool) (gaps givers gaps′ givers′ : List ℕ) (r : Least) : Type 0 where
   pub ways : (j : ℕ) → j < k → flags reached j ≡ false
-      → Nearer (entry t n row j) (nums l row) (ints h j) row (nums gaps j) (nums givers j) (nums (r .gaps) j) (nums (r .givers) j)
-  pub kept : (j : ℕ) → j < k → flags reached j ≡ true → (nums (r .gaps) j ≡ nums gaps j) × (nums (r .givers) j ≡ nums givers j)
-  pub least : (j : ℕ) → j < k → flags reached j ≡ false → r .least .gap ≤ nums (r .gaps) j
-  pub most : r .least .gap ≤ none
-  pub column : r .least .gap < none
-      → (r .least .column < k) × (flags reached (r .least .column) ≡ false) × (nums (r .gaps) (r .least .column) ≡ r .least .gap)
+      → Nearer (entry t n row j) (nums l row) (ints h j) row (nums gaps j) (nums givers j) (nums gaps′ j) (nums givers′ j)
+  pub kept : (j : ℕ) → j < k → flags reached j ≡ true → (nums gaps′ j ≡ nums gaps j) × (nums givers′ j ≡ nums givers j)
+  pub least : (j : ℕ) → j < k → flags reached j ≡ false → r .gap ≤ nums gaps′ j
+  pub most : r .gap ≤ none
+  pub column : r .gap < none
+      → (r .column < k) × (flags reached (r .column) ≡ false) × (nums gaps′ (r .column) ≡ r .gap)
+  pub fits : r .column < rows
+  pub long : Long gaps′ × Long givers′
 
 -- what a row or a column gets of a rise by δ: all of it, or nothing
 abbrev pub share : ℕ → Bool → ℕ
@@ -66,6 +71,7 @@ pub record Lowered (δ g g′ : ℕ) : Type 0 where
 
 -- a rise by δ that can be reckoned and leaves no gap below 0
 pub record Rising (n δ : ℕ) (l : List ℕ) (h : List ℤ) (gaps : List ℕ) : Type 0 where
+  pub long : Long l × Long h × Long gaps
   pub small : n ≤ rows
   pub rise : δ ≤ 2 * room
   pub additions : (i : ℕ) → i < n → nums l i ≤ room
@@ -73,8 +79,8 @@ pub record Rising (n δ : ℕ) (l : List ℕ) (h : List ℤ) (gaps : List ℕ) :
   pub gap : (j : ℕ) → j < n → nums gaps j < none → δ ≤ nums gaps j
 
 -- the first k rows and columns after the rise: those of the tree are raised, the gaps lowered
-pub record RisenBy (k δ : ℕ) (tree reached : List Bool) (l : List ℕ) (h : List ℤ) (gaps : List ℕ) (r : Risen) : Type 0 where
-  pub addition : (i : ℕ) → i < k → nums (r .additions) i ≡ nums l i + share δ (flags tree i)
-  pub head : (j : ℕ) → j < k → ints (r .heads) j ≡ ints h j +ℤ pos (share δ (flags reached j))
-  pub gap : (j : ℕ) → j < k → Lowered δ (nums gaps j) (nums (r .gaps) j)
-  pub long : length (r .gaps) ≡ rows
+pub record RisenBy (k δ : ℕ) (tree reached : List Bool) (l : List ℕ) (h : List ℤ) (gaps l′ : List ℕ) (h′ : List ℤ) (gaps′ : List ℕ) : Type 0 where
+  pub addition : (i : ℕ) → i < k → nums l′ i ≡ nums l i + share δ (flags tree i)
+  pub head : (j : ℕ) → j < k → ints h′ j ≡ ints h j +ℤ pos (share δ (flags reached j))
+  pub gap : (j : ℕ) → j < k → Lowered δ (nums gaps j) (nums gaps′ j)
+  pub long : Long l′ × Long h′ × Long gaps′

@@ -1,12 +1,12 @@
 ghost use mathlib.Core.Path.{_≡_};
-ghost use Prim.Native.Nat.{ℕ, _+_, _*_, _≤_, _<_};
+ghost use Prim.Native.Nat.{_+_, _*_, _≤_, _<_};
 ghost use lib.IntN.{pos, _+ℤ_};
-ghost use lib.Signed.{_≤ℤ_, mag};
+ghost use lib.Signed.{mag};
 ghost use Rattle.theory.specs.Limits.{order};
 ghost use Rattle.theory.specs.Table.{Present};
 ghost use Rattle.orders.specs.Places.{room, Square, Roomy};
-ghost use Rattle.growth.specs.Steps.{none, Fitting, Nearer, Lesser, Joining, LookedAt, share, Lowered, Rising, RisenBy};
-ghost use Rattle.growth.specs.Standing.{SomeWay, Flipped, SomeReady, Inserted, FirstOf};
+ghost use Rattle.growth.specs.Steps.{none, Long, Fitting, Nearer, Lesser, Joining, LookedAt, share, Lowered, Rising, RisenBy};
+ghost use Rattle.growth.specs.Standing.{SomeWay, Flipped, SomeReady, SomeColumns, Met, Inserted, FirstOf};
 ghost use Rattle.growth.specs.Grown.{Startable, GrownFrom};
 use orders::ABSENT;
 use orders::ROWS;
@@ -14,8 +14,8 @@ use orders::ROWS;
 // What stands for the gap of a column in which no row of the tree has an order.
 pub const NONE: u32 = 4294967295;
 
-// The least canon from a start, if there is a complete transversal: additions and heads, and the marks of a complete transversal of
-// column maxima, row of column and column of row. A row or a column that has no mark yet has the number ROWS.
+// The least canon from a start, if one is found: additions, heads, and the marks of a complete transversal of column maxima, the row
+// of each column and the column of each row.
 pub struct Grown {
     pub found: bool,
     pub additions: [u32; ROWS],
@@ -32,13 +32,13 @@ fn gap(order: i16, addition: u32, head: i32) -> u32
     (head - orders::raise(order, addition)) as u32
 }
 
-// The gap of a column, and the row that gives it.
+// A way into a column: its gap, and the row that gives it.
 pub struct Way {
     pub gap: u32,
     pub giver: usize,
 }
 
-// The nearer of a way into a column and the one from one more row.
+// The nearer of a way into a column and the one from one more row. Rules out a way that no row gives, and a farther one.
 fn nearer(way: Way, order: i16, addition: u32, head: i32, row: usize) -> Way
     requires { ⌜ Fitting order addition head ⌝ }
     ensures { λ r. ⌜ Nearer order addition head row (way .gap) (way .giver) (r .gap) (r .giver) ⌝ }
@@ -59,6 +59,7 @@ pub struct Least {
     pub column: usize,
 }
 
+// The lesser of the least gap and that of one more column.
 fn lesser(least: Least, gap: u32, column: usize) -> Least
     ensures { λ r. ⌜ Lesser least gap column r ⌝ }
 {
@@ -68,14 +69,8 @@ fn lesser(least: Least, gap: u32, column: usize) -> Least
     Least { gap, column }
 }
 
-// The gaps and their givers, and the least.
-pub struct Looked {
-    pub gaps: [u32; ROWS],
-    pub givers: [usize; ROWS],
-    pub least: Least,
-}
-
-// The gaps of the unreached columns when the tree has one more row, and the least of them.
+// The least gap of the unreached columns, when one more row has joined the tree and the ways into them have taken it in. Rules out
+// a column passed over, and a way into a reached column changed.
 fn look(
     table: &[i16],
     n: usize,
@@ -83,14 +78,24 @@ fn look(
     additions: &[u32; ROWS],
     heads: &[i32; ROWS],
     reached: &[bool; ROWS],
-    gaps: [u32; ROWS],
-    givers: [usize; ROWS],
-) -> Looked
-    requires { ⌜ Joining (now table) n row (now additions) (now heads) ⌝ }
-    ensures { λ r. ⌜ LookedAt (now (table .entry)) n n row (now (additions .entry)) (now (heads .entry)) (now (reached .entry)) gaps givers r ⌝ }
+    gaps: &mut [u32; ROWS],
+    givers: &mut [usize; ROWS],
+) -> Least
+    requires { ⌜ Joining (now table) n row (now additions) (now heads) (now gaps) (now givers) ⌝ }
+    ensures { λ r. ⌜ LookedAt
+        (now (table .entry))
+        n
+        n
+        row
+        (now (additions .entry))
+        (now (heads .entry))
+        (now (reached .entry))
+        (now (gaps .entry))
+        (now (givers .entry))
+        (now (gaps .exit))
+        (now (givers .exit))
+        r ⌝ }
 {
-    let mut gaps = gaps;
-    let mut givers = givers;
     let mut least = Least {
         gap: NONE,
         column: 0,
@@ -111,16 +116,12 @@ fn look(
         }
         j += 1;
     }
-    Looked {
-        gaps,
-        givers,
-        least,
-    }
+    least
 }
 
 // What a row or a column gets of a rise: all of it in the tree, else nothing.
 fn share(rise: u32, taken: bool) -> u32
-    ensures { λ r. ⌜ r ≡ share rise taken ⌝ }
+    ensures { λ r. ⌜ (r ≡ share rise taken) × (r ≤ rise) ⌝ }
 {
     if taken { rise } else { 0 }
 }
@@ -141,35 +142,32 @@ fn lowered(gap: u32, rise: u32) -> u32
     if gap == NONE { gap } else { gap - rise }
 }
 
-// Additions, heads and gaps after a rise.
-pub struct Risen {
-    pub additions: [u32; ROWS],
-    pub heads: [i32; ROWS],
-    pub gaps: [u32; ROWS],
-}
-
-// The tree's rows and the reached columns raised, and the gaps lowered.
+// The tree rises: its rows and the reached columns are raised, and the gaps lowered. Rules out a row or a column of the tree left
+// behind, and one outside raised with it.
 fn rise_by(
     n: usize,
     rise: u32,
     tree: &[bool; ROWS],
     reached: &[bool; ROWS],
-    additions: [u32; ROWS],
-    heads: [i32; ROWS],
-    gaps: [u32; ROWS],
-) -> Risen
-    requires { ⌜ Rising n rise additions heads gaps ⌝ }
-    ensures { λ r. ⌜ RisenBy n rise (now (tree .entry)) (now (reached .entry)) additions heads gaps r ⌝ }
+    additions: &mut [u32; ROWS],
+    heads: &mut [i32; ROWS],
+    gaps: &mut [u32; ROWS],
+)
+    requires { ⌜ Rising n rise (now additions) (now heads) (now gaps) ⌝ }
+    ensures { λ r. ⌜ RisenBy
+        n
+        rise
+        (now (tree .entry))
+        (now (reached .entry))
+        (now (additions .entry))
+        (now (heads .entry))
+        (now (gaps .entry))
+        (now (additions .exit))
+        (now (heads .exit))
+        (now (gaps .exit)) ⌝ }
 {
-    let mut additions = additions;
-    let mut heads = heads;
-    let mut gaps = gaps;
     if rise == 0 {
-        return Risen {
-            additions,
-            heads,
-            gaps,
-        };
+        return;
     }
     let mut i = 0;
     while i < n {
@@ -178,32 +176,90 @@ fn rise_by(
         gaps[i] = lowered(gaps[i], rise);
         i += 1;
     }
-    Risen {
-        additions,
-        heads,
-        gaps,
+}
+
+// A tree of rows grows from row s, and rises, until an unmarked column is tight for one of its rows: that column, or ROWS where no
+// column is left to reach. Rules out a rise beyond a canon, and an end at a column that no row of the tree is tight in.
+fn reach(
+    table: &[i16],
+    n: usize,
+    s: usize,
+    rows: &[usize; ROWS],
+    additions: &mut [u32; ROWS],
+    heads: &mut [i32; ROWS],
+    givers: &mut [usize; ROWS],
+) -> usize
+    requires { ⌜ SomeColumns (now table) n s (now additions) (now heads) (now rows) × Long (now givers) ⌝ }
+    ensures { λ r. ⌜ Met
+        (now (table .entry))
+        n
+        s
+        (now (additions .entry))
+        (now (heads .entry))
+        (now (rows .entry))
+        r
+        (now (additions .exit))
+        (now (heads .exit))
+        (now (givers .exit)) ⌝ }
+{
+    let mut tree = [false; ROWS];
+    let mut reached = [false; ROWS];
+    let mut gaps = [NONE; ROWS];
+    let mut row = s;
+    loop {
+        tree[row] = true;
+        let least = look(
+            table,
+            n,
+            row,
+            &*additions,
+            &*heads,
+            &reached,
+            &mut gaps,
+            &mut *givers,
+        );
+        let rise = least.gap;
+        let end = least.column;
+        if rise == NONE {
+            return ROWS;
+        }
+        rise_by(
+            n,
+            rise,
+            &tree,
+            &reached,
+            &mut *additions,
+            &mut *heads,
+            &mut gaps,
+        );
+        if n <= rows[end] {
+            return end;
+        }
+        reached[end] = true;
+        gaps[end] = NONE;
+        row = rows[end];
     }
 }
 
-// The marks of a transversal.
-pub struct Marked {
-    pub rows: [usize; ROWS],
-    pub columns: [usize; ROWS],
-}
-
-// The marks with row s among them: from the column `end` back along the givers, each row takes the column that it gives.
+// The way back from the unmarked column `end` to row s: each row on the way takes the column that it gives. Rules out a row or a
+// column that loses its mark, and a mark at a place that is not tight.
 fn flip(
     s: usize,
     end: usize,
     givers: &[usize; ROWS],
-    rows: [usize; ROWS],
-    columns: [usize; ROWS],
-) -> Marked
-    requires { ⌜ SomeWay s end (now givers) rows columns ⌝ }
-    ensures { λ r. ⌜ Flipped s end (now (givers .entry)) rows columns r ⌝ }
+    rows: &mut [usize; ROWS],
+    columns: &mut [usize; ROWS],
+)
+    requires { ⌜ SomeWay s end (now givers) (now rows) (now columns) ⌝ }
+    ensures { λ r. ⌜ Flipped
+        s
+        end
+        (now (givers .entry))
+        (now (rows .entry))
+        (now (columns .entry))
+        (now (rows .exit))
+        (now (columns .exit)) ⌝ }
 {
-    let mut rows = rows;
-    let mut columns = columns;
     let mut j = end;
     let mut i = givers[end];
     while i != s {
@@ -215,115 +271,97 @@ fn flip(
     }
     rows[j] = s;
     columns[s] = j;
-    Marked { rows, columns }
 }
 
-// One more row gets its mark.
-fn insert(table: &[i16], n: usize, s: usize, grown: Grown) -> Grown
-    requires { ⌜ SomeReady (now table) n s grown ⌝ }
-    ensures { λ r. ⌜ Inserted (now (table .entry)) n s grown r ⌝ }
+// One more row, row s, gets its mark; false where there is no complete transversal.
+fn insert(
+    table: &[i16],
+    n: usize,
+    s: usize,
+    additions: &mut [u32; ROWS],
+    heads: &mut [i32; ROWS],
+    rows: &mut [usize; ROWS],
+    columns: &mut [usize; ROWS],
+) -> bool
+    requires { ⌜ SomeReady (now table) n s (now additions) (now heads) (now rows) (now columns) ⌝ }
+    ensures { λ r. ⌜ Inserted
+        (now (table .entry))
+        n
+        s
+        (now (additions .entry))
+        (now (heads .entry))
+        (now (rows .entry))
+        (now (columns .entry))
+        r
+        (now (additions .exit))
+        (now (heads .exit))
+        (now (rows .exit))
+        (now (columns .exit)) ⌝ }
 {
-    let mut additions = grown.additions;
-    let mut heads = grown.heads;
-    let rows = grown.rows;
-    let columns = grown.columns;
-    let mut tree = [false; ROWS];
-    let mut reached = [false; ROWS];
-    let mut gaps = [NONE; ROWS];
     let mut givers = [0usize; ROWS];
-    let mut row = s;
-    loop {
-        tree[row] = true;
-        let looked = look(table, n, row, &additions, &heads, &reached, gaps, givers);
-        gaps = looked.gaps;
-        givers = looked.givers;
-        let rise = looked.least.gap;
-        let end = looked.least.column;
-        if rise == NONE {
-            return Grown {
-                found: false,
-                additions,
-                heads,
-                rows,
-                columns,
-            };
-        }
-        let risen = rise_by(n, rise, &tree, &reached, additions, heads, gaps);
-        additions = risen.additions;
-        heads = risen.heads;
-        gaps = risen.gaps;
-        if n <= rows[end] {
-            let marked = flip(s, end, &givers, rows, columns);
-            let new_rows = marked.rows;
-            let new_columns = marked.columns;
-            return Grown {
-                found: true,
-                additions,
-                heads,
-                rows: new_rows,
-                columns: new_columns,
-            };
-        }
-        reached[end] = true;
-        gaps[end] = NONE;
-        row = rows[end];
+    let end = reach(
+        table,
+        n,
+        s,
+        &*rows,
+        &mut *additions,
+        &mut *heads,
+        &mut givers,
+    );
+    if n <= end {
+        return false;
     }
+    flip(s, end, &givers, &mut *rows, &mut *columns);
+    true
 }
 
-// The heads of all columns, if each column has an order.
-pub struct FirstHeads {
-    pub present: bool,
-    pub heads: [i32; ROWS],
-}
-
-fn first_heads(table: &[i16], n: usize, start: &[u32; ROWS]) -> FirstHeads
-    requires { ⌜ Square (now table) n × Roomy n (now start) ⌝ }
-    ensures { λ r. ⌜ FirstOf (now (table .entry)) n (now (start .entry)) r ⌝ }
+// The heads of all columns; false where a column has no order.
+fn first_heads(table: &[i16], n: usize, start: &[u32; ROWS], heads: &mut [i32; ROWS]) -> bool
+    requires { ⌜ Square (now table) n × Roomy n (now start) × Long (now heads) ⌝ }
+    ensures { λ r. ⌜ FirstOf (now (table .entry)) n (now (start .entry)) r (now (heads .exit)) ⌝ }
 {
-    let mut heads = [0i32; ROWS];
     let mut j = 0;
     while j < n {
         let top = orders::head(table, n, start, j);
         if !top.present {
-            return FirstHeads {
-                present: false,
-                heads,
-            };
+            return false;
         }
         let head = top.head;
         heads[j] = head;
         j += 1;
     }
-    FirstHeads {
-        present: true,
-        heads,
-    }
+    true
 }
 
-// The least canon from a start.
+// The least canon from a start, with a complete transversal of column maxima and the heads; or that there is no complete
+// transversal. Rules out additions that are no canon, a canon that is not the least, and an answer either way that is not so.
 pub fn grow(n: usize, table: &[i16], start: [u32; ROWS]) -> Grown
     requires { ⌜ Startable (now table) n start ⌝ }
     ensures { λ r. ⌜ GrownFrom (now (table .entry)) n start r ⌝ }
 {
-    let first = first_heads(table, n, &start);
-    let heads = first.heads;
-    let mut grown = Grown {
-        found: first.present,
-        additions: start,
-        heads,
-        rows: [ROWS; ROWS],
-        columns: [ROWS; ROWS],
-    };
-    if !first.present {
-        return grown;
-    }
+    let mut additions = start;
+    let mut heads = [0i32; ROWS];
+    let mut rows = [ROWS; ROWS];
+    let mut columns = [ROWS; ROWS];
+    let mut found = first_heads(table, n, &start, &mut heads);
     let mut s = 0;
-    while s < n {
-        grown = insert(table, n, s, grown);
-        if !grown.found {
-            return grown;
-        }
+    while found && s < n {
+        found = insert(
+            table,
+            n,
+            s,
+            &mut additions,
+            &mut heads,
+            &mut rows,
+            &mut columns,
+        );
         s += 1;
     }
-    grown
+    Grown {
+        found,
+        additions,
+        heads,
+        rows,
+        columns,
+    }
 }

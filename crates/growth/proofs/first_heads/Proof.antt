@@ -2,7 +2,7 @@
 use mathlib.Core.Path.{_≡_, refl}
 use Prim.Native.Nat.{_-_, _≤_}
 use native.Mathlib.Omega.{arith}
-use borrow.Author.Needs.{needs, sfits-of}
+use borrow.Author.Needs.{needs}
 use borrow.Author.Tests.{not-true, not-false}
 use mir.Syntax.{w32}
 use mir.Val.{SFits}
@@ -17,10 +17,11 @@ Inv-loop table n start heads₀ j₀ heads j =
     (j ≤ n) × HeadsTo table n j start heads
 
 abbrev μ-loop : tie.MeasureT-loop
-μ-loop table n start heads₀ j₀ heads j = n - j
+μ-loop table n start heads₀ j₀ heads j =
+    n - j
 
 loop-holds : tie.Need-loop-holds Inv-loop μ-loop
-loop-holds c = (omega arith, record { heads = λ j hj. absurd (omega arith); long = search needs })
+loop-holds c = (omega arith, record { heads = λ j hj. absurd (omega arith); long = c .pre .2 })
 
 head-requires : tie.Need-head-requires Inv-loop μ-loop
 head-requires c κs = (c .before .before .pre .0, omega arith, c .before .before .pre .1)
@@ -28,13 +29,17 @@ head-requires c κs = (c .before .before .pre .0, omega arith, c .before .before
 returns : tie.Need-returns Inv-loop μ-loop
 returns c =
     let top = c .before .before .head in
-    record { heads = λ e. clash e refl; none = λ e. no-head (top .ensures) (omega arith) (not-true _ (c .if1 .taken)) }
+    record {
+      heads = λ e. clash e refl;
+      none = λ e. no-head (top .ensures) (omega arith) (not-true _ (c .if1 .taken));
+      long = c .before .before .before .before .loop .inv .1 .long;
+    }
 
-mul-heads : tie.Need-mul-heads Inv-loop μ-loop
-mul-heads c = omega arith
+mul-head : tie.Need-mul-head Inv-loop μ-loop
+mul-head c = omega arith
 
-array-set-from-heads : tie.Need-array-set-from-heads Inv-loop μ-loop
-array-set-from-heads c = omega arith
+element-set-from-head : tie.Need-element-set-from-head Inv-loop μ-loop
+element-set-from-head c = omega arith
 
 add-j : tie.Need-add-j Inv-loop μ-loop
 add-j c = omega arith
@@ -49,14 +54,14 @@ loop-again c =
     let s = c .before .before .before .before .before .before in (
       omega arith,
       rw (toZ-ofZ f)
-          (heads-step (c .before .before .before .before .before .loop .inv .1) (omega (arith, s .pre .0 .small)) (top .ensures)
-          (not-false _ (c .before .if1 .left))),
+          (heads-step (c .before .before .before .before .before .loop .inv .1) (omega (arith, s .pre .0 .small)) (top .ensures) (not-false _ (c .before .if1 .left))),
     )
 
 returns-2 : tie.Need-returns-2 Inv-loop μ-loop
 returns-2 c =
     let e : c .before .loop .j ≡ c .before .before .args .n = omega arith in
-    record { heads = λ t. rw e at (c .before .loop .inv .1 .heads); none = λ t. clash refl t }
+    let w = c .before .loop .inv .1 in
+    record { heads = λ t. rw e at (w .heads); none = λ t. clash refl t; long = w .long }
 
 pub first-heads-spec : {M : Type 1} → statement M
 first-heads-spec =
@@ -67,8 +72,8 @@ first-heads-spec =
     loop-holds
     head-requires
     returns
-    mul-heads
-    array-set-from-heads
+    mul-head
+    element-set-from-head
     add-j
     loop-less
     loop-again

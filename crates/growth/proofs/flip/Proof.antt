@@ -1,11 +1,11 @@
 -- The way back from an unmarked column to row s. Assumes nothing.
-use mathlib.Core.Path.{_≡_, _∙_}
-use Prim.Native.Nat.{ℕ, _≤_}
+use mathlib.Core.Path.{_∙_}
+use Prim.Native.Nat.{ℕ}
 use native.Mathlib.Omega.{arith}
-use borrow.Author.Needs.{needs}
 use lib.IntN.{ℤ}
-use lib.ListN.{length, set, length-set}
+use lib.ListN.{length-set}
 use Rattle.theory.specs.Lists.{nums}
+use Rattle.growth.specs.Steps.{Long}
 use Rattle.growth.specs.Standing.{WayBack}
 use Rattle.growth.proofs.Stores.{put-nums, same, same-less}
 use Rattle.growth.proofs.Flipping.{Open, open-start, before, open-step, open-still, open-end}
@@ -14,11 +14,12 @@ use Rattle.growth.proofs.flip.Tie as tie
 
 abbrev Inv-loop : tie.InvT-loop
 Inv-loop s end givers rows₀ columns₀ j₀ i₀ rows columns j i =
-    (length rows ≡ 32) × (length columns ≡ 32)
+    Long rows × Long columns
     × ((n : ℕ) (a : ℕ → ℕ → ℤ) (l : ℕ → ℕ) (h : ℕ → ℤ) (w : WayBack n a s l h (nums rows₀) (nums columns₀) (nums givers) end) → Open w (nums rows) (nums columns) j i)
 
 abbrev μ-loop : tie.MeasureT-loop
-μ-loop s end givers rows₀ columns₀ j₀ i₀ rows columns j i = same (nums rows₀) (nums rows)
+μ-loop s end givers rows₀ columns₀ j₀ i₀ rows columns j i =
+    same (nums rows₀) (nums rows)
 
 mul-i : tie.Need-mul-i Inv-loop μ-loop
 mul-i c = omega (arith, c .pre .way .inside, c .pre .way .small)
@@ -27,7 +28,7 @@ element-copy-out-i : tie.Need-element-copy-out-i Inv-loop μ-loop
 element-copy-out-i c = omega (arith, c .pre .way .inside, c .pre .way .small)
 
 loop-holds : tie.Need-loop-holds Inv-loop μ-loop
-loop-holds c = (search needs, search needs, λ n a l h w. open-start w)
+loop-holds c = (c .before .pre .long .0, c .before .pre .long .1, λ n a l h w. open-start w)
 
 mul-next : tie.Need-mul-next Inv-loop μ-loop
 mul-next c =
@@ -35,64 +36,64 @@ mul-next c =
     let o = c .before .loop .inv .2 (p .n) (p .a) (p .l) (p .h) (p .way) in
     omega (arith, o .row-inside, p .way .small)
 
-array-read-next : tie.Need-array-read-next Inv-loop μ-loop
-array-read-next c =
+element-copy-out-next : tie.Need-element-copy-out-next Inv-loop μ-loop
+element-copy-out-next c =
     let p = c .before .before .before .pre in
     let o = c .before .loop .inv .2 (p .n) (p .a) (p .l) (p .h) (p .way) in
     omega (arith, o .row-inside, p .way .small)
 
 mul-rows : tie.Need-mul-rows Inv-loop μ-loop
 mul-rows c =
-    let p = c .before .before .before .pre in
-    let o = c .before .loop .inv .2 (p .n) (p .a) (p .l) (p .h) (p .way) in
+    let p = c .before .before .before .before .pre in
+    let o = c .before .before .loop .inv .2 (p .n) (p .a) (p .l) (p .h) (p .way) in
     omega (arith, o .inside, p .way .small)
 
-array-write-rows : tie.Need-array-write-rows Inv-loop μ-loop
-array-write-rows c =
-    let p = c .before .before .before .pre in
-    let o = c .before .loop .inv .2 (p .n) (p .a) (p .l) (p .h) (p .way) in
+element-write-rows : tie.Need-element-write-rows Inv-loop μ-loop
+element-write-rows c =
+    let p = c .before .before .before .before .pre in
+    let o = c .before .before .loop .inv .2 (p .n) (p .a) (p .l) (p .h) (p .way) in
     omega (arith, o .inside, p .way .small)
 
 mul-columns : tie.Need-mul-columns Inv-loop μ-loop
 mul-columns c =
-    let p = c .before .before .before .pre in
-    let o = c .before .loop .inv .2 (p .n) (p .a) (p .l) (p .h) (p .way) in
+    let p = c .before .before .before .before .pre in
+    let o = c .before .before .loop .inv .2 (p .n) (p .a) (p .l) (p .h) (p .way) in
     omega (arith, o .row-inside, p .way .small)
 
-array-write-columns : tie.Need-array-write-columns Inv-loop μ-loop
-array-write-columns c =
-    let p = c .before .before .before .pre in
-    let o = c .before .loop .inv .2 (p .n) (p .a) (p .l) (p .h) (p .way) in
+element-write-columns : tie.Need-element-write-columns Inv-loop μ-loop
+element-write-columns c =
+    let p = c .before .before .before .before .pre in
+    let o = c .before .before .loop .inv .2 (p .n) (p .a) (p .l) (p .h) (p .way) in
     omega (arith, o .row-inside, p .way .small)
 
 mul-i-2 : tie.Need-mul-i-2 Inv-loop μ-loop
 mul-i-2 c =
-    let p = c .before .before .before .pre in
-    let o = c .before .loop .inv .2 (p .n) (p .a) (p .l) (p .h) (p .way) in
-    omega (arith, o .column (c .before .loop .i) (before (p .way) o (c .loop-test .taken)) .0, p .way .small)
+    let p = c .before .before .before .before .pre in
+    let o = c .before .before .loop .inv .2 (p .n) (p .a) (p .l) (p .h) (p .way) in
+    omega (arith, o .column (c .before .before .loop .i) (before (p .way) o (c .before .loop-test .taken)) .0, p .way .small)
 
 element-copy-out-i-2 : tie.Need-element-copy-out-i-2 Inv-loop μ-loop
 element-copy-out-i-2 c =
-    let p = c .before .before .before .pre in
-    let o = c .before .loop .inv .2 (p .n) (p .a) (p .l) (p .h) (p .way) in
-    omega (arith, o .column (c .before .loop .i) (before (p .way) o (c .loop-test .taken)) .0, p .way .small)
+    let p = c .before .before .before .before .pre in
+    let o = c .before .before .loop .inv .2 (p .n) (p .a) (p .l) (p .h) (p .way) in
+    omega (arith, o .column (c .before .before .loop .i) (before (p .way) o (c .before .loop-test .taken)) .0, p .way .small)
 
 loop-less : tie.Need-loop-less Inv-loop μ-loop
 loop-less c =
-    let p = c .before .before .before .before .pre in
-    let v = c .before .before .loop in
+    let p = c .before .before .before .before .before .pre in
+    let v = c .before .before .before .loop in
     let o = v .inv .2 (p .n) (p .a) (p .l) (p .h) (p .way) in
-    same-less (nums (c .before .before .before .before .args .rows)) (omega (arith, o .inside, p .way .small))
+    same-less (nums (c .before .before .before .before .before .args .rows .now)) (omega (arith, o .inside, p .way .small))
     (put-nums (v .rows) (v .j) (v .i) (omega (arith, v .inv .0, o .inside, p .way .small))) (o .unflipped) (o .fresh)
 
 loop-again : tie.Need-loop-again Inv-loop μ-loop
 loop-again c =
-    let v = c .before .before .loop in (
+    let v = c .before .before .before .loop in (
       length-set (v .rows) (v .j) (v .i) ∙ v .inv .0,
       length-set (v .columns) (v .i) (v .j) ∙ v .inv .1,
       λ n a l h w.
           let o = v .inv .2 n a l h w in
-          open-step w o (c .before .loop-test .taken) (put-nums (v .rows) (v .j) (v .i) (omega (arith, v .inv .0, o .inside, w .small)))
+          open-step w o (c .before .before .loop-test .taken) (put-nums (v .rows) (v .j) (v .i) (omega (arith, v .inv .0, o .inside, w .small)))
           (put-nums (v .columns) (v .i) (v .j) (omega (arith, v .inv .1, o .row-inside, w .small))),
     )
 
@@ -102,8 +103,8 @@ mul-rows-2 c =
     let o = c .before .loop .inv .2 (p .n) (p .a) (p .l) (p .h) (p .way) in
     omega (arith, o .inside, p .way .small)
 
-array-write-rows-2 : tie.Need-array-write-rows-2 Inv-loop μ-loop
-array-write-rows-2 c =
+element-write-rows-2 : tie.Need-element-write-rows-2 Inv-loop μ-loop
+element-write-rows-2 c =
     let p = c .before .before .before .pre in
     let o = c .before .loop .inv .2 (p .n) (p .a) (p .l) (p .h) (p .way) in
     omega (arith, o .inside, p .way .small)
@@ -113,8 +114,8 @@ mul-columns-2 c =
     let p = c .before .before .before .pre in
     omega (arith, p .way .inserted, p .way .small)
 
-array-write-columns-2 : tie.Need-array-write-columns-2 Inv-loop μ-loop
-array-write-columns-2 c =
+element-write-columns-2 : tie.Need-element-write-columns-2 Inv-loop μ-loop
+element-write-columns-2 c =
     let p = c .before .before .before .pre in
     omega (arith, p .way .inserted, p .way .small)
 
@@ -130,6 +131,7 @@ returns c =
       unmarked = λ n a l h w j hj.
           let o = v .inv .2 n a l h w in
           open-still w o (put-nums (v .rows) (v .j) s (omega (arith, v .inv .0, o .inside, w .small))) j;
+      long = (length-set (v .rows) (v .j) s ∙ v .inv .0, length-set (v .columns) s (v .j) ∙ v .inv .1);
     }
 
 pub flip-spec : {M : Type 1} → statement M
@@ -142,17 +144,17 @@ flip-spec =
     element-copy-out-i
     loop-holds
     mul-next
-    array-read-next
+    element-copy-out-next
     mul-rows
-    array-write-rows
+    element-write-rows
     mul-columns
-    array-write-columns
+    element-write-columns
     mul-i-2
     element-copy-out-i-2
     loop-less
     loop-again
     mul-rows-2
-    array-write-rows-2
+    element-write-rows-2
     mul-columns-2
-    array-write-columns-2
+    element-write-columns-2
     returns)

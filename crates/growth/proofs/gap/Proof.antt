@@ -1,7 +1,6 @@
 -- Head less raised order, which does not exceed it. Assumes nothing.
 use borrow.Author.Needs.{needs, sfits-of}
-use lib.IntN.{pos, _+ℤ_, _-ℤ_}
-use mathlib.Core.Path.{_≡_}
+use lib.IntN.{_-ℤ_}
 use mir.Syntax.{w16, w32}
 use mir.Val.{SFits}
 use mir.Facts.{toZ-ofZ}

@@ -1,68 +1,69 @@
 -- The rows are inserted one after the other; when all are, the additions are the least canon from the start. Assumes nothing.
-use mathlib.Core.Path.{_≡_}
-use mathlib.Core.Bool.{true}
-use Prim.Native.Nat.{_-_, _≤_}
+use mathlib.Core.Path.{_≡_, refl}
+use mathlib.Core.Bool.{true, false}
+use Prim.Native.Nat.{ℕ, _-_, _≤_}
 use native.Mathlib.Omega.{arith}
-use borrow.Author.Tests.{not-true, not-false}
+use borrow.Author.Needs.{needs}
+use borrow.Author.Tests.{ltb-true, ltb-false}
 use Rattle.theory.specs.Lists.{nums}
+use Rattle.theory.specs.Table.{entry}
+use Rattle.theory.specs.Canon.{Transversal}
 use Rattle.orders.proofs.Entries.{clash}
+use Rattle.growth.specs.Steps.{Long}
 use Rattle.growth.specs.Standing.{Ready}
 use Rattle.growth.proofs.Inserting.{first-ready, whole}
 use Rattle.growth.proofs.grow.Statement.{statement}
 use Rattle.growth.proofs.grow.Tie as tie
 
 abbrev Inv-loop : tie.InvT-loop
-Inv-loop n table grown₀ s₀ grown s =
-    (s ≤ n) × (grown .found ≡ true)
-    × Ready table n (nums (grown₀ .additions)) s (grown .additions) (grown .heads) (grown .rows) (grown .columns)
+Inv-loop n table additions₀ heads₀ rows₀ columns₀ found₀ s₀ additions heads rows columns found s =
+    (s ≤ n) × (found ≡ true → Ready table n (nums additions₀) s additions heads rows columns)
+    × (found ≡ false → (σ : ℕ → ℕ) → Transversal n (entry table n) σ → ⊥) × (Long additions × Long heads × Long rows × Long columns)
 
 abbrev μ-loop : tie.MeasureT-loop
-μ-loop n table grown₀ s₀ grown s = n - s
+μ-loop n table additions₀ heads₀ rows₀ columns₀ found₀ s₀ additions heads rows columns found s =
+    n - s
 
 first-heads-requires : tie.Need-first-heads-requires Inv-loop μ-loop
-first-heads-requires c κs = (c .before .pre .square, λ i hi. omega (arith, c .before .pre .handed-in i hi))
-
-returns : tie.Need-returns Inv-loop μ-loop
-returns c =
-    let f = c .before .before .before .first-heads in
-    let e = not-true _ (c .if1 .taken) in
-    record { found = λ t. clash t e; none = λ t. f .ensures .none e }
+first-heads-requires c κs =
+    let p = c .before .before .pre in
+    (p .square, λ i hi. omega (arith, p .handed-in i hi), refl)
 
 loop-holds : tie.Need-loop-holds Inv-loop μ-loop
 loop-holds c =
-    let f = c .before .before .before .first-heads in
-    let e = not-false _ (c .if1 .left) in
-    (omega arith, e, first-ready (c .before .before .before .before .before .pre) (f .ensures .heads e))
+    let f = c .first-heads .ensures in
+    let p = c .before .before .before .pre in
+    (omega arith, (λ e. first-ready p (f .heads e)), f .none, (search needs, f .long, refl, refl))
 
 insert-requires : tie.Need-insert-requires Inv-loop μ-loop
 insert-requires c κs =
-    let v = c .before .loop .inv in
-    record { inside = omega arith; start = _; ready = v .2 }
-
-returns-2 : tie.Need-returns-2 Inv-loop μ-loop
-returns-2 c =
-    let i = c .before .before .insert in
-    let e = not-true _ (c .if2 .taken) in
-    record { found = λ t. clash t e; none = λ t. i .ensures .none e }
+    let v = c .before .before .before .before .before .before .loop .inv in
+    record { inside = omega (arith, ltb-true); start = _; ready = v .1 (c .before .before .before .before .before .loop-test .taken); long = v .3 }
 
 add-s : tie.Need-add-s Inv-loop μ-loop
-add-s c = omega arith
+add-s c = omega (arith, ltb-true)
 
 loop-less : tie.Need-loop-less Inv-loop μ-loop
-loop-less c = omega arith
+loop-less c = omega (arith, ltb-true)
 
 loop-again : tie.Need-loop-again Inv-loop μ-loop
 loop-again c =
-    let i = c .before .before .insert in
-    let e = not-false _ (c .if2 .left) in
-    let v = c .before .before .before .before .loop .inv in
-    (omega arith, e, i .ensures .found e _ (v .2))
+    let v = c .before .before .before .before .before .before .before .loop .inv in
+    let i = c .insert .ensures in
+    (omega (arith, ltb-true), (λ e. i .ready e _ (v .1 (c .before .before .before .before .before .before .loop-test .taken))), i .none, i .long)
 
-returns-3 : tie.Need-returns-3 Inv-loop μ-loop
-returns-3 c =
+returns : tie.Need-returns Inv-loop μ-loop
+returns c =
+    let v = c .before .before .loop in
+    let t = c .before .loop-test .taken in
+    let e : v .s ≡ c .before .before .before .before .before .before .args .n = omega (arith, ltb-false) in
+    record { found = λ q. whole _ _ (rw e at (v .inv .1 t)); none = λ q. clash t q }
+
+returns-2 : tie.Need-returns-2 Inv-loop μ-loop
+returns-2 c =
     let v = c .before .loop in
-    let e : v .s ≡ c .before .before .before .before .before .before .before .args .n = omega arith in
-    record { found = λ t. whole _ (v .grown) (rw e at (v .inv .2)); none = λ t. clash (v .inv .1) t }
+    let t = c .loop-test .left in
+    record { found = λ q. clash q t; none = λ q. v .inv .2 t }
 
 pub grow-spec : {M : Type 1} → statement M
 grow-spec =
@@ -71,11 +72,10 @@ grow-spec =
     Inv-loop
     μ-loop
     first-heads-requires
-    returns
     loop-holds
     insert-requires
-    returns-2
     add-s
     loop-less
     loop-again
-    returns-3)
+    returns
+    returns-2)

@@ -1,5 +1,4 @@
 -- The lesser of two gaps. Assumes nothing.
-use native.Mathlib.Omega.{arith}
 use Rattle.growth.proofs.Gaps.{lesser-kept, lesser-taken}
 use Rattle.growth.proofs.lesser.Statement.{statement}
 use Rattle.growth.proofs.lesser.Tie as tie

@@ -17,7 +17,8 @@ Inv-loop table n row additions heads reached gaps₀ givers₀ least₀ addition
     (j ≤ n) × Looking table n j row additions heads reached gaps₀ givers₀ gaps givers least
 
 abbrev μ-loop : tie.MeasureT-loop
-μ-loop table n row additions heads reached gaps₀ givers₀ least₀ addition j₀ gaps givers least j = n - j
+μ-loop table n row additions heads reached gaps₀ givers₀ least₀ addition j₀ gaps givers least j =
+    n - j
 
 mul-addition : tie.Need-mul-addition Inv-loop μ-loop
 mul-addition c = omega (arith, c .pre .inside, c .pre .square .small)
@@ -26,7 +27,7 @@ element-copy-out-addition : tie.Need-element-copy-out-addition Inv-loop μ-loop
 element-copy-out-addition c = omega (arith, c .pre .inside, c .pre .square .small)
 
 loop-holds : tie.Need-loop-holds Inv-loop μ-loop
-loop-holds c = (omega arith, look-start (search needs) (search needs))
+loop-holds c = (omega arith, look-start (c .before .pre .long))
 
 element-copy-out-if1 : tie.Need-element-copy-out-if1 Inv-loop μ-loop
 element-copy-out-if1 c = omega arith
@@ -36,17 +37,17 @@ place-requires c κs =
     let s = c .before .before .before .before .before in
     (s .pre .square, s .pre .inside, omega arith)
 
-mul-t25 : tie.Need-mul-t25 Inv-loop μ-loop
-mul-t25 c = omega arith
+mul-t23 : tie.Need-mul-t23 Inv-loop μ-loop
+mul-t23 c = omega arith
 
-array-read-t28 : tie.Need-array-read-t28 Inv-loop μ-loop
-array-read-t28 c = omega arith
+element-copy-out-t26 : tie.Need-element-copy-out-t26 Inv-loop μ-loop
+element-copy-out-t26 c = omega arith
 
 mul-gaps : tie.Need-mul-gaps Inv-loop μ-loop
 mul-gaps c = omega arith
 
-array-read-gaps : tie.Need-array-read-gaps Inv-loop μ-loop
-array-read-gaps c = omega arith
+element-copy-out-gaps : tie.Need-element-copy-out-gaps Inv-loop μ-loop
+element-copy-out-gaps c = omega arith
 
 mul-nearer : tie.Need-mul-nearer Inv-loop μ-loop
 mul-nearer c = omega arith
@@ -56,23 +57,23 @@ element-copy-out-nearer c = omega arith
 
 nearer-requires : tie.Need-nearer-requires Inv-loop μ-loop
 nearer-requires c κs =
-    let s = c .before .before .before .before .before .before .before in
-    let p = c .before .place in
-    let j = c .before .before .before .before .before .loop .j in
+    let s = c .before .before .before .before .before .before .before .before .before in
+    let p = c .before .before .before .place in
+    let j = c .before .before .before .before .before .before .before .loop .j in
     let f = s .pre .fitting j (omega arith) in
-    rw (toZ-ofZ (sfits-of (p .ok)), p .ensures, toZ-ofZ (head-fits (ints (s .args .heads .now) j) (f .head))) f
+    rw (toZ-ofZ {w = w16} {z = p .result} (sfits-of (p .ok)), p .ensures, toZ-ofZ (head-fits (ints (s .args .heads .now) j) (f .head))) f
 
 mul-gaps-2 : tie.Need-mul-gaps-2 Inv-loop μ-loop
 mul-gaps-2 c = omega arith
 
-array-write-gaps : tie.Need-array-write-gaps Inv-loop μ-loop
-array-write-gaps c = omega arith
+element-write-gaps : tie.Need-element-write-gaps Inv-loop μ-loop
+element-write-gaps c = omega arith
 
 mul-givers : tie.Need-mul-givers Inv-loop μ-loop
 mul-givers c = omega arith
 
-array-write-givers : tie.Need-array-write-givers Inv-loop μ-loop
-array-write-givers c = omega arith
+element-write-givers : tie.Need-element-write-givers Inv-loop μ-loop
+element-write-givers c = omega arith
 
 lesser-requires : tie.Need-lesser-requires Inv-loop μ-loop
 lesser-requires c κs = search needs
@@ -93,9 +94,9 @@ loop-again c =
       omega arith,
       elim (c .if1 .came) [
         | inl v ↦
-            rw (v .5, v .6, v .7)
-            (look-take w (omega (arith, s .pre .square .small)) (not-true _ (v .0 .taken)) (v .3 .result .gap) (v .3 .result .giver) (v .4 .result)
-            (rw (v .1 .ensures) at (simp (toZ-ofZ {w = w16} {z = v .1 .result} (sfits-of (v .1 .ok)), toZ-ofZ g) at (v .3 .ensures))) (v .4 .ensures))
+            rw (v .7, v .8, v .9)
+            (look-take w (omega (arith, s .pre .square .small)) (not-true _ (v .0 .taken)) (v .5 .result .gap) (v .5 .result .giver) (v .6 .result)
+            (rw (v .1 .ensures) at (simp (toZ-ofZ {w = w16} {z = v .1 .result} (sfits-of (v .1 .ok)), toZ-ofZ g) at (v .5 .ensures))) (v .6 .ensures))
         | inr v ↦ rw (v .1, v .2, v .3) (look-skip w (not-false _ (v .0 .left)))
       ],
     )
@@ -116,17 +117,17 @@ look-spec =
     loop-holds
     element-copy-out-if1
     place-requires
-    mul-t25
-    array-read-t28
+    mul-t23
+    element-copy-out-t26
     mul-gaps
-    array-read-gaps
+    element-copy-out-gaps
     mul-nearer
     element-copy-out-nearer
     nearer-requires
     mul-gaps-2
-    array-write-gaps
+    element-write-gaps
     mul-givers
-    array-write-givers
+    element-write-givers
     lesser-requires
     add-j
     loop-less

@@ -1,6 +1,5 @@
 -- The nearer of two ways into a column. Assumes nothing.
 use native.Mathlib.Omega.{arith}
-use borrow.Author.Needs.{needs}
 use mir.Facts.{toZ-ofZ}
 use Rattle.orders.proofs.Entries.{absent-bits, present-bits}
 use Rattle.growth.proofs.Gaps.{gap-small, fitting-read, nearer-none, nearer-kept, nearer-taken}

@@ -4,8 +4,8 @@ use Prim.Native.Nat.{_-_, _≤_}
 use native.Mathlib.Omega.{arith}
 use borrow.Author.Needs.{needs, sfits-of}
 use mir.Facts.{toZ-ofZ}
-use Rattle.theory.specs.Lists.{flags, ints}
-use Rattle.growth.proofs.Passes.{RisenTo, head-fits, share-most, rise-none, rise-start, rise-add, rise-head, rise-gap, rise-step}
+use Rattle.theory.specs.Lists.{ints}
+use Rattle.growth.proofs.Passes.{RisenTo, head-fits, rise-none, rise-start, rise-add, rise-head, rise-gap, rise-step}
 use Rattle.growth.proofs.rise_by.Statement.{statement}
 use Rattle.growth.proofs.rise_by.Tie as tie
 
@@ -14,19 +14,20 @@ Inv-loop n rise tree reached additions₀ heads₀ gaps₀ i₀ additions heads 
     (i ≤ n) × RisenTo i rise tree reached additions₀ heads₀ gaps₀ additions heads gaps
 
 abbrev μ-loop : tie.MeasureT-loop
-μ-loop n rise tree reached additions₀ heads₀ gaps₀ i₀ additions heads gaps i = n - i
+μ-loop n rise tree reached additions₀ heads₀ gaps₀ i₀ additions heads gaps i =
+    n - i
 
 returns : tie.Need-returns Inv-loop μ-loop
-returns c = rise-none _ _ _ _ _ _ _ (search needs) (c .if1 .taken)
+returns c = rise-none (c .before .pre .long) (c .if1 .taken)
 
 loop-holds : tie.Need-loop-holds Inv-loop μ-loop
-loop-holds c = (omega arith, rise-start (search needs) (search needs) (search needs))
+loop-holds c = (omega arith, rise-start (c .before .pre .long))
 
 mul-additions : tie.Need-mul-additions Inv-loop μ-loop
 mul-additions c = omega arith
 
-array-read-additions : tie.Need-array-read-additions Inv-loop μ-loop
-array-read-additions c = omega arith
+element-copy-out-additions : tie.Need-element-copy-out-additions Inv-loop μ-loop
+element-copy-out-additions c = omega arith
 
 element-copy-out-share : tie.Need-element-copy-out-share Inv-loop μ-loop
 element-copy-out-share c = omega arith
@@ -36,20 +37,21 @@ share-requires c κs = search needs
 
 add-additions : tie.Need-add-additions Inv-loop μ-loop
 add-additions c =
-    let s = c .before .before .before .before .before in
-    omega (arith, rise-add (c .before .before .before .loop .inv .1) (s .pre) (omega arith) (flags (s .args .tree .now) (c .before .before .before .loop .i)) (c .share .ensures))
+    let s = c .before .before .before .before .before .before in
+    let v = c .before .before .before .before .loop in
+    omega (arith, rise-add (v .inv .1) (s .pre) (omega arith) (c .share .ensures .1))
 
 mul-additions-2 : tie.Need-mul-additions-2 Inv-loop μ-loop
 mul-additions-2 c = omega arith
 
-array-write-additions : tie.Need-array-write-additions Inv-loop μ-loop
-array-write-additions c = omega arith
+element-write-additions : tie.Need-element-write-additions Inv-loop μ-loop
+element-write-additions c = omega arith
 
 mul-lift : tie.Need-mul-lift Inv-loop μ-loop
 mul-lift c = omega arith
 
-array-copy-out-lift : tie.Need-array-copy-out-lift Inv-loop μ-loop
-array-copy-out-lift c = omega arith
+element-copy-out-lift : tie.Need-element-copy-out-lift Inv-loop μ-loop
+element-copy-out-lift c = omega arith
 
 element-copy-out-share-2 : tie.Need-element-copy-out-share-2 Inv-loop μ-loop
 element-copy-out-share-2 c = omega arith
@@ -59,33 +61,35 @@ share-requires-2 c κs = search needs
 
 lift-requires : tie.Need-lift-requires Inv-loop μ-loop
 lift-requires c κs =
-    let s = c .before .before .before .before .before .before .before .before in
-    let m = rise-head (c .before .before .before .before .before .before .loop .inv .1) (s .pre) (omega arith) in
-    let v = c .before .before .before .before .before .before .loop in
-    (rw (toZ-ofZ (head-fits (ints (v .heads) (v .i)) m)) m, omega (arith, c .share2 .ensures, share-most (s .args .rise) (flags (s .args .reached .now) (c .before .before .before .before .before .before .loop .i)), s .pre .rise))
+    let s = c .before .before .before .before .before .before .before .before .before in
+    let v = c .before .before .before .before .before .before .before .loop in
+    let m = rise-head (v .inv .1) (s .pre) (omega arith) in (
+      rw (toZ-ofZ (head-fits (ints (v .heads) (v .i)) m)) m,
+      omega (arith, c .share2 .ensures .1, s .pre .rise),
+    )
 
-mul-heads : tie.Need-mul-heads Inv-loop μ-loop
-mul-heads c = omega arith
+mul-t19 : tie.Need-mul-t19 Inv-loop μ-loop
+mul-t19 c = omega arith
 
-array-set-from-heads : tie.Need-array-set-from-heads Inv-loop μ-loop
-array-set-from-heads c = omega arith
+element-set-from-heads : tie.Need-element-set-from-heads Inv-loop μ-loop
+element-set-from-heads c = omega arith
 
 mul-lowered : tie.Need-mul-lowered Inv-loop μ-loop
 mul-lowered c = omega arith
 
-array-read-lowered : tie.Need-array-read-lowered Inv-loop μ-loop
-array-read-lowered c = omega arith
+element-copy-out-lowered : tie.Need-element-copy-out-lowered Inv-loop μ-loop
+element-copy-out-lowered c = omega arith
 
 lowered-requires : tie.Need-lowered-requires Inv-loop μ-loop
 lowered-requires c κs =
-    let s = c .before .before .before .before .before .before .before .before .before in
-    rise-gap (c .before .before .before .before .before .before .before .loop .inv .1) (s .pre) (omega arith)
+    let s = c .before .before .before .before .before .before .before .before .before .before .before in
+    rise-gap (c .before .before .before .before .before .before .before .before .before .loop .inv .1) (s .pre) (omega arith)
 
 mul-gaps : tie.Need-mul-gaps Inv-loop μ-loop
 mul-gaps c = omega arith
 
-array-write-gaps : tie.Need-array-write-gaps Inv-loop μ-loop
-array-write-gaps c = omega arith
+element-write-gaps : tie.Need-element-write-gaps Inv-loop μ-loop
+element-write-gaps c = omega arith
 
 add-i : tie.Need-add-i Inv-loop μ-loop
 add-i c = omega arith
@@ -95,15 +99,15 @@ loop-less c = omega arith
 
 loop-again : tie.Need-loop-again Inv-loop μ-loop
 loop-again c =
-    let s = c .before .before .before .before .before .before .before .before .before .before in
-    let v = c .before .before .before .before .before .before .before .before .loop in
+    let s = c .before .before .before .before .before .before .before .before .before .before .before .before in
+    let v = c .before .before .before .before .before .before .before .before .before .before .loop in
     let w = v .inv .1 in
-    let l = c .before .lift in
+    let l = c .before .before .lift in
     let f = head-fits (ints (v .heads) (v .i)) (rise-head w (s .pre) (omega arith)) in (
       omega arith,
       rw (toZ-ofZ (sfits-of (l .ok)))
-          (rise-step w (omega (arith, s .pre .small)) (c .before .before .before .before .before .share .ensures)
-          (rw (c .before .before .share2 .ensures) at (simp (toZ-ofZ f) at (l .ensures))) (c .lowered .ensures)),
+          (rise-step w (omega (arith, s .pre .small)) (c .before .before .before .before .before .before .share .ensures .0)
+          (rw (c .before .before .before .share2 .ensures .0) at (simp (toZ-ofZ f) at (l .ensures))) (c .lowered .ensures)),
     )
 
 returns-2 : tie.Need-returns-2 Inv-loop μ-loop
@@ -120,24 +124,24 @@ rise-by-spec =
     returns
     loop-holds
     mul-additions
-    array-read-additions
+    element-copy-out-additions
     element-copy-out-share
     share-requires
     add-additions
     mul-additions-2
-    array-write-additions
+    element-write-additions
     mul-lift
-    array-copy-out-lift
+    element-copy-out-lift
     element-copy-out-share-2
     share-requires-2
     lift-requires
-    mul-heads
-    array-set-from-heads
+    mul-t19
+    element-set-from-heads
     mul-lowered
-    array-read-lowered
+    element-copy-out-lowered
     lowered-requires
     mul-gaps
-    array-write-gaps
+    element-write-gaps
     add-i
     loop-less
     loop-again

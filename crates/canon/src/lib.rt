@@ -1,15 +1,13 @@
 ghost use Rattle.canon.specs.Promises.{Solves, Lowers, Raises, Judges};
 use growth::grow;
 use handed::additions_stand;
-use handed::held;
 use handed::listed_marks;
-use handed::same;
 use handed::tested;
-use lowering::lower;
 use orders::ROWS;
 use orders::Refusal;
-use outcome::completed;
-use outcome::hand_out;
+use outcome::delivered;
+use routes::from_additions;
+use routes::from_columns;
 
 // What a route answers: the sum, or why there is none.
 pub enum Answer {
@@ -51,8 +49,110 @@ pub fn solve(
     let additions = grown.additions;
     let rows = grown.rows;
     let columns = grown.columns;
-    let answer = completed(n, table, additions, rows, columns);
-    let sum = answer.sum;
-    hand_out(answer, adds, stars, heads);
-    Answer::Sum(sum)
+    Answer::Sum(delivered(n, table, additions, rows, columns, adds, stars, heads))
+}
+
+// Route 2: the same from additions that are a canon.
+pub fn from_canon(
+    n: usize,
+    table: &[i16],
+    given: &[u32],
+    adds: &mut [u32],
+    stars: &mut [u32],
+    heads: &mut [i32],
+) -> Answer
+    ensures { λ r. ⌜ Lowers n (now (table .entry)) (now (given .entry)) (now (adds .entry)) (now (stars .entry)) (now (heads .entry)) r (now (adds .exit)) (now (stars .exit)) (now (heads .exit)) ⌝ }
+{
+    let refusal = tested(n, table, given.len(), adds.len(), stars.len(), heads.len());
+    if refusal == 1 {
+        return Answer::Refused(Refusal::Size);
+    }
+    if refusal == 2 {
+        return Answer::Refused(Refusal::Length);
+    }
+    if refusal == 3 {
+        return Answer::Refused(Refusal::Entry);
+    }
+    if !additions_stand(given) {
+        return Answer::Refused(Refusal::Addition);
+    }
+    let lowered = from_additions(n, table, given);
+    if !lowered.found {
+        return Answer::Refused(Refusal::NoTransversal);
+    }
+    if !lowered.canon {
+        return Answer::Refused(Refusal::NoCanon);
+    }
+    let additions = lowered.additions;
+    let rows = lowered.rows;
+    let columns = lowered.columns;
+    Answer::Sum(delivered(n, table, additions, rows, columns, adds, stars, heads))
+}
+
+// Route 3: the same from a transversal of greatest sum.
+pub fn from_stars(
+    n: usize,
+    table: &[i16],
+    given: &[u32],
+    adds: &mut [u32],
+    stars: &mut [u32],
+    heads: &mut [i32],
+) -> Answer
+    ensures { λ r. ⌜ Raises n (now (table .entry)) (now (given .entry)) (now (adds .entry)) (now (stars .entry)) (now (heads .entry)) r (now (adds .exit)) (now (stars .exit)) (now (heads .exit)) ⌝ }
+{
+    let refusal = tested(n, table, given.len(), adds.len(), stars.len(), heads.len());
+    if refusal == 1 {
+        return Answer::Refused(Refusal::Size);
+    }
+    if refusal == 2 {
+        return Answer::Refused(Refusal::Length);
+    }
+    if refusal == 3 {
+        return Answer::Refused(Refusal::Entry);
+    }
+    let listed = listed_marks(n, given);
+    if !listed.stands {
+        return Answer::Refused(Refusal::StarList);
+    }
+    let rows = listed.rows;
+    let columns = listed.columns;
+    let raised = from_columns(n, table, &columns);
+    if !raised.found {
+        return Answer::Refused(Refusal::NoTransversal);
+    }
+    if !raised.greatest {
+        return Answer::Refused(Refusal::NotGreatest);
+    }
+    let additions = raised.additions;
+    Answer::Sum(delivered(n, table, additions, rows, columns, adds, stars, heads))
+}
+
+// The yes-or-no: are the additions the simplest canon?
+pub fn is_simplest(n: usize, table: &[i16], given: &[u32]) -> Verdict
+    ensures { λ r. ⌜ Judges n (now (table .entry)) (now (given .entry)) r ⌝ }
+{
+    let refusal = tested(n, table, given.len(), n, n, n);
+    if refusal == 1 {
+        return Verdict::Refused(Refusal::Size);
+    }
+    if refusal == 2 {
+        return Verdict::Refused(Refusal::Length);
+    }
+    if refusal == 3 {
+        return Verdict::Refused(Refusal::Entry);
+    }
+    if !additions_stand(given) {
+        return Verdict::Refused(Refusal::Addition);
+    }
+    let lowered = from_additions(n, table, given);
+    if !lowered.found {
+        return Verdict::Refused(Refusal::NoTransversal);
+    }
+    if !lowered.canon {
+        return Verdict::Refused(Refusal::NoCanon);
+    }
+    if lowered.unchanged {
+        return Verdict::Yes;
+    }
+    Verdict::No
 }

@@ -62,9 +62,12 @@ abbrev pub table-tests : ℕ → List ℤ → List ℕ → List Test
 table-tests n t ks = basic n t ks (_given-when_ 6 (NoTransversal n t) ∷ [])
 
 -- route 2 and the yes-or-no: "never give 5 or 8"
+abbrev pub canon-more : ℕ → List ℤ → List ℕ → List Test
+canon-more n t given =
+    _given-when_ 4 (TooLarge given) ∷ _given-when_ 6 (NoTransversal n t) ∷ _given-when_ 7 (NoCanon n t given) ∷ []
+
 abbrev pub canon-tests : ℕ → List ℤ → List ℕ → List ℕ → List Test
-canon-tests n t given ks =
-    basic n t ks (_given-when_ 4 (TooLarge given) ∷ _given-when_ 6 (NoTransversal n t) ∷ _given-when_ 7 (NoCanon n t given) ∷ [])
+canon-tests n t given ks = basic n t ks (canon-more n t given)
 
 -- route 3: "never gives 4 or 7"
 abbrev pub star-tests : ℕ → List ℤ → List ℕ → List ℕ → List Test

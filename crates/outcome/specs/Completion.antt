@@ -4,7 +4,7 @@ use mathlib.Core.List.{List}
 use Prim.Native.Nat.{ℕ, _+_, _≤_, _<_}
 use lib.IntN.{ℤ}
 use lib.ListN.{length, take}
-use Rattle.theory.specs.Lists.{nums, ints, columns}
+use Rattle.theory.specs.Lists.{nums, ints, columns, StarList}
 use Rattle.theory.specs.Table.{Present, entry}
 use Rattle.theory.specs.Canon.{OfMaxima, Heads, Stars, sum}
 use Rattle.orders.specs.Places.{Square, Roomy, Marks}
@@ -34,3 +34,19 @@ pub record HandedOut (w : Whole) (adds stars : List ℕ) (heads : List ℤ) (add
   pub adds-are : adds′ ≡ take (length adds) (w .additions)
   pub stars-are : stars′ ≡ take (length stars) (w .stars)
   pub heads-are : heads′ ≡ take (length heads) (w .heads)
+
+-- slices with a place for each of the n rows
+pub record Lent (n : ℕ) (adds stars : List ℕ) (heads : List ℤ) : Type 0 where
+  pub adds-long : length adds ≡ n
+  pub stars-long : length stars ≡ n
+  pub heads-long : length heads ≡ n
+
+-- the slices hold the additions, the first stars that belong to them and the heads, and s is the sum
+pub record Delivered (t : List ℤ) (n : ℕ) (additions : List ℕ) (s : ℤ) (adds stars : List ℕ) (heads : List ℤ) : Type 0 where
+  pub adds-long : length adds ≡ n
+  pub adds-are : (i : ℕ) → i < n → nums additions i ≡ nums adds i
+  pub star-list : StarList n stars
+  pub stars-are : Stars n (entry t n) (nums additions) (columns stars)
+  pub heads-long : length heads ≡ n
+  pub heads-are : Heads n (entry t n) (nums additions) (ints heads)
+  pub is-sum : s ≡ sum n (entry t n) (columns stars)

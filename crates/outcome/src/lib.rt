@@ -8,7 +8,7 @@ ghost use Rattle.theory.specs.Lists.{nums, ints};
 ghost use Rattle.theory.specs.Table.{entry};
 ghost use Rattle.theory.specs.Canon.{Heads, sum};
 ghost use Rattle.orders.specs.Places.{room, Square, Roomy};
-ghost use Rattle.outcome.specs.Completion.{Occupied, Settled, WholeOf, HandedOut};
+ghost use Rattle.outcome.specs.Completion.{Occupied, Settled, Lent, WholeOf, HandedOut, Delivered};
 use orders::ROWS;
 use orders::head;
 use orders::place;
@@ -100,7 +100,7 @@ pub struct Whole {
 }
 
 // The whole answer of a canon, from the marks of any complete transversal of its column maxima.
-pub fn completed(
+fn completed(
     n: usize,
     table: &[i16],
     additions: [u32; ROWS],
@@ -123,7 +123,7 @@ pub fn completed(
 }
 
 // The whole answer copied out into the lent slices, which have a place for each row.
-pub fn hand_out(answer: Whole, adds: &mut [u32], stars: &mut [u32], heads: &mut [i32])
+fn hand_out(answer: Whole, adds: &mut [u32], stars: &mut [u32], heads: &mut [i32])
     requires { ⌜ (length (now adds) ≤ rows) × (length (now stars) ≤ rows) × (length (now heads) ≤ rows) ⌝ }
     ensures { λ _. ⌜ HandedOut answer (now (adds .entry)) (now (stars .entry)) (now (heads .entry)) (now (adds .exit)) (now (stars .exit)) (now (heads .exit)) ⌝ }
 {
@@ -133,4 +133,24 @@ pub fn hand_out(answer: Whole, adds: &mut [u32], stars: &mut [u32], heads: &mut 
     copy_u32(a, adds);
     copy_u32(s, stars);
     copy_i32(h, heads);
+}
+
+// The whole answer of a canon, worked out by value and then copied out into the lent slices; returned is the sum.
+pub fn delivered(
+    n: usize,
+    table: &[i16],
+    additions: [u32; ROWS],
+    rows: [usize; ROWS],
+    columns: [usize; ROWS],
+    adds: &mut [u32],
+    stars: &mut [u32],
+    heads: &mut [i32],
+) -> i32
+    requires { ⌜ Settled (now table) n additions rows columns × Lent n (now adds) (now stars) (now heads) ⌝ }
+    ensures { λ r. ⌜ Delivered (now (table .entry)) n additions r (now (adds .exit)) (now (stars .exit)) (now (heads .exit)) ⌝ }
+{
+    let answer = completed(n, table, additions, rows, columns);
+    let sum = answer.sum;
+    hand_out(answer, adds, stars, heads);
+    sum
 }

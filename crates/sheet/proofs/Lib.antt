@@ -5,3 +5,4 @@ pub mod Lines
 pub mod Once
 pub mod Orders
 pub mod Matching
+pub mod Answers

@@ -42,18 +42,6 @@ drop-replicate zero n a = let e : n ≡ n - 0 = omega arith in ap (λ i. replica
 drop-replicate (suc k) zero a = let e : 0 ≡ 0 - suc k = omega arith in ap (λ i. replicate i a) e
 drop-replicate (suc k) (suc n) a = let e : n - k ≡ suc n - suc k = omega arith in drop-replicate k n a ∙ ap (λ i. replicate i a) e
 
--- a loop that copies the front of s over d
-pub copy-next : {A : Type 0} (s d : List A) (i : ℕ) (z : A) → i < length s → i < length d
-    → set (take i s ++ drop i d) i (getD s i z) ≡ take (i + 1) s ++ drop (i + 1) d
-copy-next s d i z p q =
-    rw add-one
-    (ap (λ l. set (take i s ++ l) i (getD s i z)) (drop-cons d i z q)
-    ∙ set-at (take i s) (getD d i z) (drop (suc i) d) (getD s i z) i (length-take-le i s (omega arith))
-    ∙ sym (append-snoc (take i s) (getD s i z) (drop (suc i) d)) ∙ ap (λ l. l ++ drop (suc i) d) (sym (take-suc s i z p)))
-
-pub copy-length : {A : Type 0} (s d : List A) (i : ℕ) → i ≤ length s → i ≤ length d → length (take i s ++ drop i d) ≡ length d
-copy-length s d i p q = length-append (take i s) (drop i d) ∙ omega (arith, length-take-le i s p, length-drop i d)
-
 -- a label of at most 8 bytes put into the next place
 module _ (b : List ℕ) (ls : List (List ℕ)) (l : List ℕ) (h : Holding b ls) (s : Short ls) (few : length l ≤ width) (room : length ls < rows) where
   pub holding-more : Holding (paste b (width * length ls) l (length l)) (ls ++ (l ∷ []))

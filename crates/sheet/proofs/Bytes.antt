@@ -4,8 +4,9 @@ use mathlib.Core.Bool.{Bool, true, false, cond}
 use mathlib.Core.List.{List, [], _∷_, _++_, append-assoc, append-nil}
 use Prim.Native.Nat.{ℕ, zero, suc, _+_, _-_, _<_, _≤_}
 use native.Mathlib.Omega.{arith}
-use lib.ListN.{length, getD, take, drop, length-drop, length-append}
-use lib.Seq.{take-all, take-at, drop-at}
+use native.Mathlib.Numerals.{add-one}
+use lib.ListN.{length, getD, take, drop, set, length-drop, length-append}
+use lib.Seq.{take-all, take-at, drop-at, drop-cons, set-at, take-suc, length-take-le, append-snoc}
 use Rattle.sheet.specs.Text.{Each, over}
 
 -- two tests that agree case by case
@@ -74,3 +75,12 @@ front-once P a x b y p r q t e =
     let f : (z : List ℕ) × (b ≡ a ++ z) × (x ≡ z ++ y) = run-prefix P a x b y p t e in
     let n : f .0 ≡ [] = no-more P (f .0) x y (each-right P a (f .0) (subst (λ l. Each P l) (f .1) r)) q (f .2) in
     (sym (f .1 ∙ ap (λ l. a ++ l) n ∙ append-nil a), f .2 ∙ ap (λ l. l ++ y) n)
+
+-- a loop that copies the front of s over d
+pub copy-next : {A : Type 0} (s d : List A) (i : ℕ) (z : A) → i < length s → i < length d
+    → set (take i s ++ drop i d) i (getD s i z) ≡ take (i + 1) s ++ drop (i + 1) d
+copy-next s d i z p q =
+    rw add-one
+    (ap (λ l. set (take i s ++ l) i (getD s i z)) (drop-cons d i z q)
+    ∙ set-at (take i s) (getD d i z) (drop (suc i) d) (getD s i z) i (length-take-le i s (omega arith))
+    ∙ sym (append-snoc (take i s) (getD s i z) (drop (suc i) d)) ∙ ap (λ l. l ++ drop (suc i) d) (sym (take-suc s i z p)))

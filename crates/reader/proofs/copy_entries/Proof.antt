@@ -1,7 +1,7 @@
 -- The entries so far are copied, the others stay. Assumes nothing.
 use borrow.Author.Needs.{needs}
 use native.Mathlib.Omega.{arith}
-use Rattle.reader.proofs.KeepLaws.{copy-next}
+use Rattle.sheet.proofs.Bytes.{copy-next}
 use Prim.Native.Nat.{ℕ, _+_, _≤_, _<_, _-_}
 use mathlib.Core.Path.{_≡_, refl, sym, ap, _∙_}
 use mathlib.Core.List.{_++_}

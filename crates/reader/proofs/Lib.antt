@@ -1,0 +1,6 @@
+pub mod NumberLaws
+pub mod LineLaws
+pub mod KeepLaws
+pub mod WalkLaws
+pub mod PromiseLaws
+pub mod Unique

@@ -1,0 +1,69 @@
+-- The bytes of a label so far stand in its place. Assumes nothing.
+use borrow.Author.Needs.{needs}
+use native.Mathlib.Omega.{arith}
+use Prim.Native.Nat.{ℕ, _+_, _*_, _≤_, _<_, _-_}
+use mathlib.Core.Path.{_≡_, refl, sym, ap, _∙_}
+use native.Mathlib.Numerals.{add-one}
+use lib.ListN.{length, getD, set, take, drop, length-set}
+use lib.Seq.{paste, paste-zero, paste-suc}
+use Rattle.reader.proofs.put_label.Statement.{statement}
+use Rattle.reader.proofs.put_label.Tie as tie
+
+abbrev Inv-loop : tie.InvT-loop
+Inv-loop k line kept₀ at i₀ kept i = (i ≤ length line) × (at + length line ≤ 256) × (length kept₀ ≡ 256) × (length kept ≡ 256) × (kept ≡ paste kept₀ at line i)
+
+abbrev μ-loop : tie.MeasureT-loop
+μ-loop k line kept₀ at i₀ kept i = length line - i
+
+mul-at : tie.Need-mul-at Inv-loop μ-loop
+mul-at c = search needs
+
+loop-holds : tie.Need-loop-holds Inv-loop μ-loop
+loop-holds c = (omega arith, omega arith, search needs, search needs, paste-zero (c .args .labels) (8 * c .args .k) (c .args .line .now))
+
+shared-slice-read-kept : tie.Need-shared-slice-read-kept Inv-loop μ-loop
+shared-slice-read-kept c = search needs
+
+add-kept : tie.Need-add-kept Inv-loop μ-loop
+add-kept c = search needs
+
+array-write-kept : tie.Need-array-write-kept Inv-loop μ-loop
+array-write-kept c = search needs
+
+add-i : tie.Need-add-i Inv-loop μ-loop
+add-i c = search needs
+
+loop-less : tie.Need-loop-less Inv-loop μ-loop
+loop-less c = search needs
+
+loop-again : tie.Need-loop-again Inv-loop μ-loop
+loop-again c = let l = c .before .before .loop in (
+  omega arith,
+  l .inv .1,
+  l .inv .2,
+  simp length-set (l .inv .3),
+  ap (λ x. set x (8 * c .before .before .before .args .k + l .i) (getD (c .before .before .before .args .line .now) (l .i) 0)) (l .inv .4)
+      ∙ paste-suc (c .before .before .before .args .labels) (8 * c .before .before .before .args .k) (c .before .before .before .args .line .now) (l .i) 0 (omega arith) (omega arith)
+      ∙ ap (λ x. paste (c .before .before .before .args .labels) (8 * c .before .before .before .args .k) (c .before .before .before .args .line .now) x) (sym (add-one (l .i))),
+)
+
+returns : tie.Need-returns Inv-loop μ-loop
+returns c = let l = c .before .loop in
+    let e : l .i ≡ length (c .before .before .args .line .now) = omega arith in
+    l .inv .4 ∙ ap (λ x. paste (c .before .before .args .labels) (8 * c .before .before .args .k) (c .before .before .args .line .now) x) e
+
+pub put-label-spec : {M : Type 1} → statement M
+put-label-spec =
+    tie.close
+    (tie.spec
+    Inv-loop
+    μ-loop
+    mul-at
+    loop-holds
+    shared-slice-read-kept
+    add-kept
+    array-write-kept
+    add-i
+    loop-less
+    loop-again
+    returns)

@@ -1,0 +1,142 @@
+-- What the functions inside the reader tell each other about a line. Each case of an answer says what the text is, and the case
+-- `Nothing` that it is no such text at all.
+use mathlib.Core.Path.{_≡_}
+use mathlib.Core.Logic.{_≢_}
+use mathlib.Core.Bool.{true, false}
+use mathlib.Core.List.{List, [], _∷_, _++_}
+use Prim.Native.Nat.{ℕ, suc, _+_, _-_, _*_, _≤_, _<_}
+use lib.IntN.{ℤ}
+use lib.ListN.{length, getD, take, drop, replicate}
+use Rattle.theory.specs.Limits.{rows, order}
+use Rattle.theory.specs.Table.{absent, Order}
+use Rattle.sheet.specs.Text.{feed, blank, text, signed}
+use Rattle.sheet.specs.Labels.{width, Form, New, Labels, slots}
+use Rattle.sheet.specs.Sheet.{orderText}
+use Rattle.sheet.specs.Reading.{State, start, Heading, After, Final, Outcome, wrong, Reads}
+use Rattle.reader.specs.declared.Front.{Front}
+use Rattle.reader.specs.declared.Front.the-variants.{Number, Nothing as NoFront}
+use Rattle.reader.specs.declared.Count.{Count}
+use Rattle.reader.specs.declared.Count.the-variants.{Of, Nothing as NoCount}
+use Rattle.reader.specs.declared.Value.{Value}
+use Rattle.reader.specs.declared.Value.the-variants.{Is, Nothing as NoValue}
+use Rattle.reader.specs.declared.Place.{Place}
+use Rattle.reader.specs.declared.Place.the-variants.{At, Nothing as NoPlace}
+use Rattle.reader.specs.declared.Slots.{Slots}
+use Rattle.reader.specs.declared.Kept.{Kept}
+use Rattle.reader.specs.declared.Walked.{Walked}
+
+-- the first line feed of s is at r, or s has none and r is its length
+pub record LineEnd (s : List ℕ) (r : ℕ) : Type 0 where
+  pub inside : r ≤ length s
+  pub before : (k : ℕ) → k < r → getD s k 0 ≢ feed
+  pub here : r < length s → getD s r 0 ≡ feed
+
+-- s does not begin with a digit
+abbrev pub NoDigit : List ℕ → Type 0
+NoDigit s = 0 < length s → (48 ≤ getD s 0 0) × (getD s 0 0 ≤ 57) → ⊥
+
+-- the number at the front of s
+pub record FrontIs (s : List ℕ) (limit v next : ℕ) : Type 0 where
+  pub small : v ≤ limit
+  pub inside : next ≤ length s
+  pub parts : s ≡ text v ++ drop next s
+  pub stops : NoDigit (drop next s)
+
+abbrev pub FrontOf : List ℕ → ℕ → Front → Type 0
+FrontOf s limit (Number v next) = FrontIs s limit v next
+FrontOf s limit NoFront = (v : ℕ) (x : List ℕ) → v ≤ limit → NoDigit x → s ≡ text v ++ x → ⊥
+
+-- the number that s is
+abbrev pub CountOf : List ℕ → ℕ → Count → Type 0
+CountOf s limit (Of v) = (v ≤ limit) × (s ≡ text v)
+CountOf s limit NoCount = (v : ℕ) → v ≤ limit → s ≡ text v → ⊥
+
+-- a number from 1 on with a blank after it
+pub record FieldIs (s : List ℕ) (limit v next : ℕ) : Type 0 where
+  pub some : 1 ≤ v
+  pub small : v ≤ limit
+  pub inside : next ≤ length s
+  pub parts : s ≡ text v ++ blank ∷ drop next s
+
+abbrev pub FieldOf : List ℕ → ℕ → Front → Type 0
+FieldOf s limit (Number v next) = FieldIs s limit v next
+FieldOf s limit NoFront = (v : ℕ) (x : List ℕ) → 1 ≤ v → v ≤ limit → s ≡ text v ++ blank ∷ x → ⊥
+
+-- the order that s is
+abbrev pub ValueOf : List ℕ → Value → Type 0
+ValueOf s (Is v) = Order order v × (s ≡ signed v)
+ValueOf s NoValue = (v : ℤ) → Order order v → s ≡ signed v → ⊥
+
+-- the order line that l is
+pub record OrderIs (n : ℕ) (l : List ℕ) (i j : ℕ) (v : ℤ) : Type 0 where
+  pub row : i < n
+  pub col : j < n
+  pub order-stands : Order order v
+  pub is : l ≡ orderText i j v
+
+abbrev pub PlaceOf : ℕ → List ℕ → Place → Type 0
+PlaceOf n l (At i j v) = OrderIs n l i j v
+PlaceOf n l NoPlace = (i j : ℕ) (v : ℤ) → OrderIs n l i j v → ⊥
+
+-- the count after a heading's bytes
+pub record CountIs (l head : List ℕ) (low high c : ℕ) : Type 0 where
+  pub least : low ≤ c
+  pub most : c ≤ high
+  pub is : l ≡ head ++ text c
+
+abbrev pub AfterOf : List ℕ → List ℕ → ℕ → ℕ → Count → Type 0
+AfterOf l head low high (Of c) = CountIs l head low high c
+AfterOf l head low high NoCount = (c : ℕ) → CountIs l head low high c → ⊥
+
+-- the count of a section's heading
+abbrev pub HeadingOf : List ℕ → ℕ → ℕ → Count → Type 0
+HeadingOf l section n (Of c) = Heading section n c l
+HeadingOf l section n NoCount = (c : ℕ) → Heading section n c l → ⊥
+
+-- a label buffer of the reader holds these labels, and zero bytes after them
+abbrev pub Holding : List ℕ → List (List ℕ) → Type 0
+Holding b ls = b ≡ slots ls ++ replicate (width * rows - width * length ls) 0
+
+-- after the labels ls the line l was fit to be a label, and is kept; or it was not
+pub record LabelKept (ls : List (List ℕ)) (l : List ℕ) (r : Slots) : Type 0 where
+  pub fit : r .fits ≡ true → Form l × New ls l × Holding (r .labels) (ls ++ (l ∷ []))
+  pub unfit : r .fits ≡ false → Form l → New ls l → ⊥
+
+-- what is kept is what the lines so far said
+pub record Holds (kept : Kept) (st : State) : Type 0 where
+  pub rows-held : Holding (kept .rows) (st .row-labels)
+  pub cols-held : Holding (kept .cols) (st .col-labels)
+  pub rows-stand : Labels (st .row-labels)
+  pub cols-stand : Labels (st .col-labels)
+  pub table-held : kept .table ≡ st .entries ++ replicate (rows * rows - length (st .entries)) absent
+  pub next-held : kept .next ≡ length (st .entries)
+  pub few : length (st .entries) ≤ rows * rows
+
+-- line k of a section, both from 0, is due, and m lines after it
+pub record Due (section n k m : ℕ) (st : State) : Type 0 where
+  pub section-is : st .section ≡ suc section
+  pub left-is : st .left ≡ suc m
+  pub in-rows : section ≡ 0 → length (st .row-labels) ≡ k
+  pub in-cols : section ≡ 1 → length (st .col-labels) ≡ k
+  pub in-orders : section ≡ 2 → length (st .row-labels) ≡ n
+
+-- the line l can stand after those of st, and what it says is kept; or it cannot
+pub record LineKept (st : State) (l : List ℕ) (r : Kept) : Type 0 where
+  pub fit : r .fits ≡ true → (st′ : State) × After st l st′ × Holds r st′
+  pub unfit : r .fits ≡ false → (st′ : State) → After st l st′ → ⊥
+
+-- the walk's end: a wrong line; or the sheet may end after the bytes passed, and what they said is kept
+pub record Ends (s : List ℕ) (r : Walked) (st : State) : Type 0 where
+  pub final : Final st
+  pub held : Holds (r .kept) st
+  pub rows-are : r .n ≡ length (st .row-labels)
+  pub rows-few : r .n ≤ rows
+  pub cols-are : length (st .col-labels) ≡ length (st .row-labels)
+  pub inside : r .at ≤ length s
+  pub line-small : r .line ≤ r .at + 1
+  pub line-some : 1 ≤ r .line
+  pub whole : (o : Outcome) → Reads st (r .line) (drop (r .at) s) o → Reads start 1 s o
+
+pub record WalkTells (s : List ℕ) (r : Walked) : Type 0 where
+  pub stopped : r .wrong ≢ 0 → Reads start 1 s (wrong (r .wrong))
+  pub ended : r .wrong ≡ 0 → (st : State) × Ends s r st

@@ -1,0 +1,133 @@
+-- The lines and the count of a table's orders, part by part. Assumes nothing.
+use mathlib.Core.Path.{_≡_, refl, sym, ap, subst, subst⁻¹, _∙_}
+use mathlib.Core.Bool.{Bool, true, false, cond}
+use mathlib.Core.List.{List, [], _∷_, _++_, append-assoc, append-nil}
+use Prim.Native.Nat.{ℕ, zero, suc, _+_, _-_, _*_, _/_, _%_, _<_, _≤_}
+use native.Mathlib.Omega.{arith}
+use native.Mathlib.Decide.{ℕ-discrete}
+use native.Mathlib.Nat.{mul-add-div-right, div-eq-of-lt, mul-add-mod-self-right, mod-eq-of-lt, div-add-mod', div-lt-iff-lt-mul, mod-lt, mul-le-mul-right}
+use borrow.Author.Tests.{eq-eqb, ne-eqb, eqb-true, eqb-false}
+use lib.Dec.{eqb}
+use lib.IntN.{ℤ, pos, negsuc}
+use lib.ListN.{length, getD, replicate, length-append, length-replicate, List·getD-append, getD-replicate}
+use lib.Seq.{getD-append-add}
+use Rattle.theory.specs.Limits.{order}
+use Rattle.theory.specs.Table.{absent, Present, Order, Entries}
+use Rattle.theory.proofs.Signed.{signed}
+use Rattle.sheet.specs.Text.{ended}
+use Rattle.sheet.specs.Sheet.{isAbsent, presentCount, orderLine, orderLines, orderText, labelLines}
+use Rattle.sheet.proofs.Bytes.{clash}
+
+-- label lines of two lists one after the other
+pub label-lines-append : (a b : List (List ℕ)) → labelLines (a ++ b) ≡ labelLines a ++ labelLines b
+unfolding labelLines
+label-lines-append [] b = refl
+label-lines-append (l ∷ a) b =
+    ap (λ x. ended l ++ x) (label-lines-append a b) ∙ sym (append-assoc (ended l) (labelLines a) (labelLines b))
+
+pub label-lines-one : (l : List ℕ) → labelLines (l ∷ []) ≡ ended l
+unfolding labelLines
+label-lines-one l = append-nil (ended l)
+
+-- the test of an absent entry
+pub absent-is : (v : ℤ) → isAbsent v ≡ true → v ≡ absent
+absent-is (pos n) e = clash {t = false} e refl
+absent-is (negsuc n) e = ap negsuc (eqb-true n 32767 e)
+
+pub absent-not : (v : ℤ) → isAbsent v ≡ false → Present v
+absent-not v e p = clash {t = isAbsent v} (ap isAbsent p) e
+
+pub order-present : (v : ℤ) → Order order v → isAbsent v ≡ false
+order-present (pos n) o = refl
+order-present (negsuc n) o = ne-eqb n 32767 (λ e. omega (arith, signed, o .low))
+
+-- entries in two parts
+pub lines-append : (n p : ℕ) (a b : List ℤ) → orderLines n p (a ++ b) ≡ orderLines n p a ++ orderLines n (p + length a) b
+unfolding orderLines
+lines-append n p [] b = let e : p ≡ p + 0 = omega arith in ap (λ q. orderLines n q b) e
+lines-append n p (v ∷ a) b =
+    let e : suc p + length a ≡ p + length (v ∷ a) = omega arith in
+    ap (λ x. orderLine n p v ++ x) (lines-append n (suc p) a b ∙ ap (λ q. orderLines n (suc p) a ++ orderLines n q b) e)
+    ∙ sym (append-assoc (orderLine n p v) (orderLines n (suc p) a) (orderLines n (p + length (v ∷ a)) b))
+
+pub lines-absent : (n p d : ℕ) → orderLines n p (replicate d absent) ≡ []
+unfolding orderLines
+lines-absent n p zero = refl
+lines-absent n p (suc d) = lines-absent n (suc p) d
+
+pub lines-one : (n p : ℕ) (v : ℤ) → isAbsent v ≡ false → orderLines n p (v ∷ []) ≡ ended (orderText (p / n) (p % n) v)
+unfolding orderLines
+lines-one n p v e = rw e (append-nil (ended (orderText (p / n) (p % n) v)))
+
+count-by : (t : Bool) (a b c : ℕ) → a ≡ b + c → cond t a (suc a) ≡ cond t b (suc b) + c
+count-by true a b c e = e
+count-by false a b c e = omega arith
+
+pub count-append : (a b : List ℤ) → presentCount (a ++ b) ≡ presentCount a + presentCount b
+unfolding presentCount
+count-append [] b = omega arith
+count-append (v ∷ a) b =
+    count-by (isAbsent v) (presentCount (a ++ b)) (presentCount a) (presentCount b) (count-append a b)
+
+pub count-absent : (d : ℕ) → presentCount (replicate d absent) ≡ 0
+unfolding presentCount
+count-absent zero = refl
+count-absent (suc d) = count-absent d
+
+pub count-one : (v : ℤ) → isAbsent v ≡ false → presentCount (v ∷ []) ≡ 1
+unfolding presentCount
+count-one v e = rw e
+
+-- the place of row i and column j
+module _ (n i j : ℕ) (inside : j < n) where
+  pub place-row : (i * n + j) / n ≡ i
+  place-row = mul-add-div-right {m = n} (omega arith) i j ∙ omega (arith, div-eq-of-lt {n = j} {m = n} inside)
+
+  pub place-col : (i * n + j) % n ≡ j
+  place-col = mul-add-mod-self-right i n j ∙ mod-eq-of-lt {n = j} {m = n} inside
+
+pub cell : (n i j : ℕ) → i < n → j < n → i * n + j < n * n
+cell n i j p q = let h : suc i * n ≤ n * n = mul-le-mul-right n p in let e : suc i * n ≡ i * n + n = native.Mathlib.Nat.suc-mul i n in omega arith
+
+-- the row and the column of place p
+module _ (n p : ℕ) (inside : p < n * n) where
+  some : 0 < n
+  some = elim (ℕ-discrete n 0) [ yes e ↦ absurd (let h : n * n ≡ 0 = rw e in omega arith) | no ne ↦ omega arith ]
+
+  pub row-inside : p / n < n
+  row-inside = div-lt-iff-lt-mul {k = n} {x = p} {y = n} some .1 inside
+
+  pub col-inside : p % n < n
+  col-inside = mod-lt p {m = n} some
+
+  pub row-col : p / n * n + p % n ≡ p
+  row-col = div-add-mod' p n
+
+-- entries in two parts stand if both do
+pub entries-none : Entries order []
+entries-none k h p = absurd (omega arith)
+
+module _ (a b : List ℤ) where
+  pub entries-append : Entries order a → Entries order b → Entries order (a ++ b)
+  entries-append p q k h = go (native.Mathlib.Decide.decLt k (length a))
+    where
+      go : Dec (k < length a) → Present (getD (a ++ b) k (pos 0)) → Order order (getD (a ++ b) k (pos 0))
+      go (yes g) = rw (List·getD-append a b (pos 0) k g) (p k g)
+      go (no g) =
+          let e : k ≡ length a + (k - length a) = omega arith in
+          let f : getD (a ++ b) k (pos 0) ≡ getD b (k - length a) (pos 0) =
+          ap (λ i. getD (a ++ b) i (pos 0)) e ∙ getD-append-add a b (k - length a) (pos 0) in
+          rw f (q (k - length a) (omega (arith, length-append a b)))
+
+  pub entries-right : Entries order (a ++ b) → Entries order b
+  entries-right p k h =
+      let f : getD (a ++ b) (length a + k) (pos 0) ≡ getD b k (pos 0) = getD-append-add a b k (pos 0) in
+      rw f at (p (length a + k) (omega (arith, length-append a b)))
+
+pub entries-absent : (d : ℕ) → Entries order (replicate d absent)
+entries-absent d k h p =
+    absurd (p (getD-replicate d k absent (pos 0) (omega (arith, length-replicate {A = ℤ} d absent))))
+
+pub entries-one : (v : ℤ) → Order order v → Entries order (v ∷ [])
+entries-one v o zero h p = o
+entries-one v o (suc k) h p = absurd (omega arith)

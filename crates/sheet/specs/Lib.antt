@@ -1,0 +1,6 @@
+-- What the customer must believe of the sheet, each word of document 01 once.
+pub mod Text
+pub mod Labels
+pub mod Sheet
+pub mod Reading
+pub mod Answer

@@ -1,0 +1,69 @@
+-- A table with labels, and its one sheet.
+use mathlib.Core.Path.{_≡_}
+use mathlib.Core.Bool.{Bool, true, false, cond}
+use mathlib.Core.List.{List, [], _∷_, _++_}
+use Prim.Native.Nat.{ℕ, zero, suc, _+_, _*_, _/_, _%_, _≤_}
+use lib.Dec.{eqb}
+use lib.IntN.{ℤ, pos, negsuc}
+use lib.ListN.{length}
+use Rattle.theory.specs.Limits.{rows, order}
+use Rattle.theory.specs.Table.{Entries}
+use Rattle.sheet.specs.Text.{blank, feed, text, signed, ended, rowsHead, colsHead, ordersHead}
+use Rattle.sheet.specs.Labels.{Labels}
+
+-- labels of the rows and of the columns, and the entries row by row
+pub record Labelled : Type 0 where
+  pub row-labels : List (List ℕ)
+  pub col-labels : List (List ℕ)
+  pub entries : List ℤ
+
+-- a labelled table within document 01's limits
+pub record Stands (t : Labelled) : Type 0 where
+  pub some : 1 ≤ length (t .row-labels)
+  pub few : length (t .row-labels) ≤ rows
+  pub same : length (t .col-labels) ≡ length (t .row-labels)
+  pub square : length (t .entries) ≡ length (t .row-labels) * length (t .row-labels)
+  pub rows-stand : Labels (t .row-labels)
+  pub cols-stand : Labels (t .col-labels)
+  pub entries-stand : Entries order (t .entries)
+
+-- "labels, one a line"
+unfoldable pub labelLines : List (List ℕ) → List ℕ
+labelLines [] = []
+labelLines (l ∷ ls) = ended l ++ labelLines ls
+
+-- is an entry absent?
+abbrev pub isAbsent : ℤ → Bool
+isAbsent (pos n) = false
+isAbsent (negsuc n) = eqb n 32767
+
+-- how many places of a table are present
+unfoldable pub presentCount : List ℤ → ℕ
+presentCount [] = 0
+presentCount (v ∷ e) = cond (isAbsent v) (presentCount e) (suc (presentCount e))
+
+-- "`i j v`", "one blank between fields": the order v in row i and column j, which count from 0 here and from 1 in the sheet
+abbrev pub orderText : ℕ → ℕ → ℤ → List ℕ
+orderText i j v = text (i + 1) ++ blank ∷ (text (j + 1) ++ blank ∷ signed v)
+
+-- the line of an entry at place p of the table, where an absent one has none
+abbrev pub orderLine : ℕ → ℕ → ℤ → List ℕ
+orderLine n p v = cond (isAbsent v) [] (ended (orderText (p / n) (p % n) v))
+
+-- "one for each present place, row before column, strictly rising": the entries from place p on
+unfoldable pub orderLines : ℕ → ℕ → List ℤ → List ℕ
+orderLines n p [] = []
+orderLines n p (v ∷ e) = orderLine n p v ++ orderLines n (suc p) e
+
+-- "`rows N`, then N labels, one a line", and the same for `cols`
+abbrev pub labelSection : List ℕ → List (List ℕ) → List ℕ
+labelSection head ls = ended (head ++ text (length ls)) ++ labelLines ls
+
+-- "`orders K`, then K lines"
+abbrev pub orderSection : ℕ → List ℤ → List ℕ
+orderSection n e = ended (ordersHead ++ text (presentCount e)) ++ orderLines n 0 e
+
+-- "So one table with labels has one sheet."
+abbrev pub sheetOf : Labelled → List ℕ
+sheetOf t =
+    labelSection rowsHead (t .row-labels) ++ (labelSection colsHead (t .col-labels) ++ orderSection (length (t .row-labels)) (t .entries))

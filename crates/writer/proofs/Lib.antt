@@ -1,0 +1,5 @@
+pub mod PutLaws
+pub mod SlotLaws
+pub mod OrderLaws
+pub mod SheetLaws
+pub mod Unique

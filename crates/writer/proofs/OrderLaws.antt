@@ -1,0 +1,208 @@
+-- Orders: the length of their lines, and one order more. Assumes nothing.
+use mathlib.Core.Path.{_≡_, refl, sym, ap, subst, subst⁻¹, _∙_}
+use mathlib.Core.Bool.{Bool, true, false, cond}
+use mathlib.Core.List.{List, [], _∷_, _++_, append-assoc, append-nil}
+use Prim.Native.Nat.{ℕ, zero, suc, _+_, _-_, _*_, _/_, _%_, _<_, _≤_}
+use native.Mathlib.Omega.{arith}
+use native.Mathlib.Numerals.{add-one}
+use native.Mathlib.Decide.{decLt}
+use lib.IntN.{ℤ, pos, negsuc, natAbs, _-ℤ_, +ℤ-idl}
+use lib.Dec.{T}
+use lib.Signed.{ltZ, nonNeg}
+use native.Mathlib.Nat.{mod-lt, mul-le-mul}
+use Rattle.writer.specs.Parts.{Tested, EntryTested}
+use mir.Syntax.{w16}
+use mir.Val.{SFits, ofZ, toZ}
+use borrow.Author.Tests.{ne-eqb}
+use Rattle.orders.proofs.Entries.{absent-bits}
+use lib.ListN.{length, getD, take, drop, length-append, take-append-drop}
+use lib.Seq.{take-suc, length-take-le, take-length}
+use Rattle.theory.specs.Limits.{order}
+use Rattle.theory.specs.Table.{Order}
+use Rattle.theory.proofs.Signed.{signed as signs}
+use Rattle.sheet.specs.Text.{text, signed, ended, blank}
+use Rattle.sheet.specs.Sheet.{isAbsent, presentCount, orderText, orderLine, orderLines}
+use Rattle.sheet.proofs.Numbers.{text-small, text-large, by-tens}
+use Rattle.sheet.proofs.Orders.{lines-append, count-append, row-inside}
+
+-- a number's length: never more than the number and one, and one digit more for each ten times
+pub text-length : (n : ℕ) → length (text n) ≤ n + 1
+text-length =
+    by-tens (λ n. length (text n) ≤ n + 1) (λ n h. rw (text-small n h) (omega arith))
+    (λ n h ih. rw (text-large n h) (omega (arith, length-append (text (n / 10)) ((48 + n % 10) ∷ []))))
+
+text-step : (b k : ℕ) → 1 ≤ k → ((m : ℕ) → m < b → length (text m) ≤ k) → (n : ℕ) → n < b * 10 → length (text n) ≤ k + 1
+text-step b k one f n h = go (decLt n 10)
+  where
+    go : Dec (n < 10) → length (text n) ≤ k + 1
+    go (yes g) = rw (text-small n g) (omega arith)
+    go (no g) =
+        rw (text-large n (omega arith)) (omega (arith, length-append (text (n / 10)) ((48 + n % 10) ∷ []), f (n / 10) (omega arith)))
+
+text-1 : (n : ℕ) → n < 10 → length (text n) ≤ 1
+text-1 n h = rw (text-small n h) (omega arith)
+
+text-2 : (n : ℕ) → n < 100 → length (text n) ≤ 2
+text-2 n h = text-step 10 1 (omega arith) text-1 n h
+
+text-3 : (n : ℕ) → n < 1000 → length (text n) ≤ 3
+text-3 n h = text-step 100 2 (omega arith) text-2 n h
+
+pub text-4 : (n : ℕ) → n < 10000 → length (text n) ≤ 4
+text-4 n h = text-step 1000 3 (omega arith) text-3 n h
+
+pub text-99 : (n : ℕ) → n < 100 → length (text n) ≤ 2
+text-99 n h = text-2 n h
+
+pub signed-short : (v : ℤ) → Order order v → length (signed v) ≤ 4
+signed-short (pos n) o = omega (arith, text-3 n (omega (arith, signs, o .high)))
+signed-short (negsuc n) o = omega (arith, text-3 (suc n) (omega (arith, signs, o .low)))
+
+-- the length of an order's line
+pub order-text-length : (i j : ℕ) (v : ℤ) → length (ended (orderText i j v)) ≡ length (text (i + 1)) + length (text (j + 1)) + length (signed v) + 3
+order-text-length i j v =
+    length-append (orderText i j v) (10 ∷ [])
+    ∙ omega (
+      arith,
+      length-append (text (i + 1)) (blank ∷ (text (j + 1) ++ blank ∷ signed v)),
+      length-append (text (j + 1)) (blank ∷ signed v),
+    )
+
+pub line-absent : (n p : ℕ) (v : ℤ) → isAbsent v ≡ true → orderLine n p v ≡ []
+line-absent n p v e = rw e
+
+pub line-present : (n p : ℕ) (v : ℤ) → isAbsent v ≡ false → orderLine n p v ≡ ended (orderText (p / n) (p % n) v)
+line-present n p v e = rw e
+
+-- one entry more
+module _ (t : List ℤ) (p : ℕ) (h : p < length t) where
+  pub order-lines-next : (n : ℕ) → orderLines n 0 (take (p + 1) t) ≡ orderLines n 0 (take p t) ++ orderLine n p (getD t p (pos 0))
+  unfolding orderLines
+  order-lines-next n =
+      let q : 0 + length (take p t) ≡ p = omega (arith, length-take-le p t (omega arith)) in
+      ap (λ i. orderLines n 0 (take i t)) (add-one p)
+      ∙ ap (λ x. orderLines n 0 x) (take-suc t p (pos 0) h)
+      ∙ lines-append n 0 (take p t) (getD t p (pos 0) ∷ [])
+      ∙ ap (λ i. orderLines n 0 (take p t) ++ orderLines n i (getD t p (pos 0) ∷ [])) q
+      ∙ ap (λ x. orderLines n 0 (take p t) ++ x) (append-nil (orderLine n p (getD t p (pos 0))))
+
+  pub count-next : presentCount (take (p + 1) t) ≡ presentCount (take p t) + cond (isAbsent (getD t p (pos 0))) 0 1
+  unfolding presentCount
+  count-next =
+      ap (λ i. presentCount (take i t)) (add-one p)
+      ∙ ap presentCount (take-suc t p (pos 0) h) ∙ count-append (take p t) (getD t p (pos 0) ∷ [])
+
+-- the lines of a front are no longer than those of the whole
+pub front-lines : (n k : ℕ) (t : List ℤ) → length (orderLines n 0 (take k t)) ≤ length (orderLines n 0 t)
+front-lines n k t =
+    let e : orderLines n 0 t ≡ orderLines n 0 (take k t) ++ orderLines n (0 + length (take k t)) (drop k t) =
+    ap (λ x. orderLines n 0 x) (sym (take-append-drop k t)) ∙ lines-append n 0 (take k t) (drop k t) in
+    omega (arith, ap length e, length-append (orderLines n 0 (take k t)) (orderLines n (0 + length (take k t)) (drop k t)))
+
+-- a number's two ways: ten and more, or one digit
+pub digits-more : (v : ℕ) → 10 ≤ v → length (text v) ≡ length (text (v / 10)) + 1
+digits-more v h = ap length (text-large v h) ∙ length-append (text (v / 10)) ((48 + v % 10) ∷ [])
+
+-- an order without its sign
+pub size-low : (v : ℤ) → Order order v → natAbs v ≤ order
+size-low (pos n) o = omega (arith, signs, o .high)
+size-low (negsuc n) o = omega (arith, signs, o .low)
+
+pub order-fits : (v : ℤ) → Order order v → SFits w16 v
+order-fits (pos n) o = record { sfits = omega (arith, signs, o .high) }
+order-fits (negsuc n) o = record { sfits = omega (arith, signs, o .low) }
+
+pub minus-fits : (v : ℤ) → Order order v → ltZ v (pos 0) ≡ true → SFits w16 (pos 0 -ℤ v)
+minus-fits (pos n) o t = absurd (omega (arith, signs, t))
+minus-fits (negsuc n) o t = rw +ℤ-idl (record { sfits = omega (arith, signs, o .low) })
+
+pub minus-is : (v : ℤ) → ltZ v (pos 0) ≡ true → pos 0 -ℤ v ≡ pos (natAbs v)
+minus-is (pos n) t = absurd (omega (arith, signs, t))
+minus-is (negsuc n) t = +ℤ-idl (pos (suc n))
+
+pub plus-is : (v : ℤ) → ltZ v (pos 0) ≡ false → v ≡ pos (natAbs v)
+plus-is (pos n) t = refl
+plus-is (negsuc n) t = absurd (omega (arith, signs, t))
+
+-- the text of an order with and without a minus
+pub signed-minus : (v : ℤ) → ltZ v (pos 0) ≡ true → signed v ≡ 45 ∷ text (natAbs v)
+signed-minus (pos n) t = absurd (omega (arith, signs, t))
+signed-minus (negsuc n) t = refl
+
+pub signed-plus : (v : ℤ) → ltZ v (pos 0) ≡ false → signed v ≡ text (natAbs v)
+signed-plus (pos n) t = refl
+signed-plus (negsuc n) t = absurd (omega (arith, signs, t))
+
+-- the bits of an absent entry
+pub absent-bits-is : (v : ℤ) → SFits w16 v → ofZ w16 v ≡ 32768 → isAbsent v ≡ true
+absent-bits-is v f e = ap isAbsent (absent-bits v f e)
+
+pub absent-bits-not : (v : ℤ) → (ofZ w16 v ≡ 32768 → ⊥) → isAbsent v ≡ false
+absent-bits-not (pos n) f = refl
+absent-bits-not (negsuc n) f = ne-eqb n 32767 (λ e. f (ap (λ x. ofZ w16 (negsuc x)) e))
+
+pub nonneg-plus : (v : ℤ) → ltZ v (pos 0) ≡ false → T (nonNeg v)
+nonneg-plus (pos n) t = tt
+nonneg-plus (negsuc n) t = absurd (omega (arith, signs, t))
+
+-- the order's line in the parts in which it is written
+pub line-parts : (i j : ℕ) (v : ℤ)
+    → (text (i + 1) ++ blank ∷ []) ++ ((text (j + 1) ++ blank ∷ []) ++ ended (signed v)) ≡ ended (orderText i j v)
+line-parts i j v =
+    append-assoc (text (i + 1)) (blank ∷ []) ((text (j + 1) ++ blank ∷ []) ++ ended (signed v))
+    ∙ ap (λ x. text (i + 1) ++ blank ∷ x) (append-assoc (text (j + 1)) (blank ∷ []) (ended (signed v)))
+    ∙ sym
+    (append-assoc (text (i + 1)) (blank ∷ (text (j + 1) ++ blank ∷ signed v)) (10 ∷ [])
+    ∙ ap (λ x. text (i + 1) ++ blank ∷ x) (append-assoc (text (j + 1)) (blank ∷ signed v) (10 ∷ [])))
+
+-- rows and columns of a place are at most 32
+pub row-few : (n p : ℕ) → n ≤ 32 → p < n * n → p / n + 1 ≤ 32
+row-few n p h g = omega (arith, row-inside n p g)
+
+pub col-few : (n p : ℕ) → 1 ≤ n → n ≤ 32 → p % n + 1 ≤ 32
+col-few n p s h = omega (arith, mod-lt p {m = n} s)
+
+-- an entry of a tested table
+pub entry-tested : (n : ℕ) (t : List ℤ) (p : ℕ) → Tested n t → p < length t → EntryTested n p (getD t p (pos 0))
+entry-tested n t p h g =
+    record {
+      some = h .some;
+      few = h .few;
+      place = omega (arith, h .square);
+      stands = h .entries-stand p g;
+    }
+
+pub square-few : (n : ℕ) → n ≤ 32 → n * n ≤ 1024
+square-few n h = mul-le-mul {n₁ = n} {m₁ = n} {n₂ = 32} {m₂ = 32} h h
+
+-- the length of the line of a tested entry that is present
+pub present-length : (n p : ℕ) (v : ℤ) → isAbsent v ≡ false
+    → length (orderLine n p v) ≡ length (text (p / n + 1)) + length (text (p % n + 1)) + length (signed v) + 3
+present-length n p v e = ap length (line-present n p v e) ∙ order-text-length (p / n) (p % n) v
+
+-- the lines with one entry more fit where all do
+pub next-room : (n : ℕ) (t : List ℤ) (p : ℕ) (o : List ℕ) → p < length t → length (orderLines n 0 t) ≤ length o
+    → length (orderLines n 0 (take p t)) + length (orderLine n p (getD t p (pos 0))) ≤ length o
+next-room n t p o h g =
+    omega (
+      arith,
+      front-lines n (p + 1) t,
+      ap length (order-lines-next t p h n),
+      length-append (orderLines n 0 (take p t)) (orderLine n p (getD t p (pos 0))),
+    )
+
+-- what is counted at an absent and at a present place
+pub count-absent-next : (t : List ℤ) (p : ℕ) → p < length t → isAbsent (getD t p (pos 0)) ≡ true → presentCount (take (p + 1) t) ≡ presentCount (take p t)
+count-absent-next t p h e = count-next t p h ∙ ap (λ b. presentCount (take p t) + cond b 0 1) e ∙ omega arith
+
+pub count-present-next : (t : List ℤ) (p : ℕ) → p < length t → isAbsent (getD t p (pos 0)) ≡ false → presentCount (take (p + 1) t) ≡ presentCount (take p t) + 1
+count-present-next t p h e = count-next t p h ∙ ap (λ b. presentCount (take p t) + cond b 0 1) e
+
+pub count-le : (e : List ℤ) → presentCount e ≤ length e
+unfolding presentCount
+count-le [] = omega arith
+count-le (v ∷ e) = go (isAbsent v) (count-le e)
+  where
+    go : (b : Bool) → presentCount e ≤ length e → cond b (presentCount e) (suc (presentCount e)) ≤ suc (length e)
+    go true h = omega arith
+    go false h = omega arith

@@ -1,0 +1,90 @@
+-- The lengths of the label lines are added up. Assumes nothing.
+use borrow.Author.Needs.{needs}
+use native.Mathlib.Omega.{arith}
+use Prim.Native.Nat.{ℕ, _+_, _-_, _*_, _≤_, _<_}
+use mathlib.Core.Path.{_≡_, refl, sym, ap, subst, _∙_}
+use lib.ListN.{length, getD, set, take, drop, length-set, length-append, length-drop}
+use Rattle.writer.proofs.SlotLaws.{label-le, slot-length, label-line-next, line-length}
+use Rattle.sheet.specs.Labels.{slot}
+use Rattle.sheet.specs.Sheet.{labelLines}
+use Rattle.sheet.specs.Text.{ended}
+use Rattle.sheet.proofs.Slots.{part-slot}
+use Rattle.writer.specs.Parts.{labelOf, labelsOf}
+use Rattle.writer.proofs.labels_length.Statement.{statement}
+use Rattle.writer.proofs.labels_length.Tie as tie
+
+abbrev Inv-loop : tie.InvT-loop
+Inv-loop n labels sum₀ k₀ sum k = (k ≤ n) × (n ≤ 32) × (8 * n ≤ length labels) × (sum ≡ length (labelLines (labelsOf k labels))) × (sum ≤ 9 * k)
+
+abbrev μ-loop : tie.MeasureT-loop
+μ-loop n labels sum₀ k₀ sum k = n - k
+
+loop-holds : tie.Need-loop-holds Inv-loop μ-loop
+unfolding labelsOf labelLines
+loop-holds c = (omega arith, c .before .pre .0, c .before .pre .1, refl, omega arith)
+
+mul-a : tie.Need-mul-a Inv-loop μ-loop
+mul-a c = search needs
+
+add-b : tie.Need-add-b Inv-loop μ-loop
+add-b c = search needs
+
+sub-label-length : tie.Need-sub-label-length Inv-loop μ-loop
+sub-label-length c = search needs
+
+part-label-length-start : tie.Need-part-label-length-start Inv-loop μ-loop
+part-label-length-start c = search needs
+
+part-label-length-end : tie.Need-part-label-length-end Inv-loop μ-loop
+part-label-length-end c = search needs
+
+label-length-requires : tie.Need-label-length-requires Inv-loop μ-loop
+label-length-requires c κs = search needs
+
+add-sum : tie.Need-add-sum Inv-loop μ-loop
+add-sum c = omega (arith, (c .label-length .ensures ∙ ap (λ x. length (labelOf x)) (part-slot (c .before .before .before .before .before .args .labels .now) (8 * c .before .before .before .loop .k) (8 * c .before .before .before .loop .k + 8) (c .before .before .before .loop .k) refl refl)), label-le (slot (c .before .before .before .before .before .args .labels .now) (c .before .before .before .loop .k)), slot-length (c .before .before .before .before .before .args .labels .now) (c .before .before .before .loop .k) (omega arith))
+
+add-sum-2 : tie.Need-add-sum-2 Inv-loop μ-loop
+add-sum-2 c = omega (arith, (c .label-length .ensures ∙ ap (λ x. length (labelOf x)) (part-slot (c .before .before .before .before .before .args .labels .now) (8 * c .before .before .before .loop .k) (8 * c .before .before .before .loop .k + 8) (c .before .before .before .loop .k) refl refl)), label-le (slot (c .before .before .before .before .before .args .labels .now) (c .before .before .before .loop .k)), slot-length (c .before .before .before .before .before .args .labels .now) (c .before .before .before .loop .k) (omega arith))
+
+add-k : tie.Need-add-k Inv-loop μ-loop
+add-k c = search needs
+
+loop-less : tie.Need-loop-less Inv-loop μ-loop
+loop-less c = search needs
+
+loop-again : tie.Need-loop-again Inv-loop μ-loop
+loop-again c = let l = (c .before .before .before .loop) in
+    let b = c .before .before .before .before .before .args .labels .now in
+    let q : length (labelOf (slot b (l .k))) ≤ 8 = omega (arith, label-le (slot (c .before .before .before .before .before .args .labels .now) (c .before .before .before .loop .k)), slot-length (c .before .before .before .before .before .args .labels .now) (c .before .before .before .loop .k) (omega arith)) in (
+      omega arith,
+      l .inv .1,
+      l .inv .2,
+      omega (arith, (c .label-length .ensures ∙ ap (λ x. length (labelOf x)) (part-slot (c .before .before .before .before .before .args .labels .now) (8 * c .before .before .before .loop .k) (8 * c .before .before .before .loop .k + 8) (c .before .before .before .loop .k) refl refl)), l .inv .3, ap length (label-line-next (c .before .before .before .loop .k) (c .before .before .before .before .before .args .labels .now)), length-append (labelLines (labelsOf (l .k) b)) (ended (labelOf (slot b (l .k)))), line-length (labelOf (slot b (l .k)))),
+      omega (arith, (c .label-length .ensures ∙ ap (λ x. length (labelOf x)) (part-slot (c .before .before .before .before .before .args .labels .now) (8 * c .before .before .before .loop .k) (8 * c .before .before .before .loop .k + 8) (c .before .before .before .loop .k) refl refl)), l .inv .4),
+    )
+
+returns : tie.Need-returns Inv-loop μ-loop
+returns c = let l = (c .before .loop) in
+    let e : l .k ≡ c .before .before .before .args .n = omega arith in
+    (l .inv .3 ∙ ap (λ x. length (labelLines (labelsOf x (c .before .before .before .args .labels .now)))) e, omega (arith, l .inv .4))
+
+pub labels-length-spec : {M : Type 1} → statement M
+labels-length-spec =
+    tie.close
+    (tie.spec
+    Inv-loop
+    μ-loop
+    loop-holds
+    mul-a
+    add-b
+    sub-label-length
+    part-label-length-start
+    part-label-length-end
+    label-length-requires
+    add-sum
+    add-sum-2
+    add-k
+    loop-less
+    loop-again
+    returns)

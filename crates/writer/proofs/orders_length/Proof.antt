@@ -1,0 +1,76 @@
+-- The lengths of the order lines are added up. Assumes nothing.
+use borrow.Author.Needs.{needs}
+use native.Mathlib.Omega.{arith}
+use Prim.Native.Nat.{ℕ, _+_, _-_, _*_, _≤_, _<_}
+use mathlib.Core.Path.{_≡_, refl, sym, ap, subst, _∙_}
+use lib.ListN.{length, getD, set, take, drop, length-set, length-append, length-drop}
+use Rattle.writer.proofs.OrderLaws.{entry-tested, square-few, order-lines-next}
+use Rattle.orders.proofs.Entries.{back}
+use mir.Syntax.{w16}
+use lib.IntN.{pos}
+use lib.Seq.{take-length}
+use Rattle.sheet.specs.Sheet.{orderLine, orderLines}
+use Rattle.writer.specs.Parts.{Tested}
+use Rattle.writer.proofs.orders_length.Statement.{statement}
+use Rattle.writer.proofs.orders_length.Tie as tie
+
+abbrev Inv-loop : tie.InvT-loop
+Inv-loop n table sum₀ p₀ sum p = (p ≤ length table) × Tested n table × (sum ≡ length (orderLines n 0 (take p table))) × (sum ≤ 16 * p)
+
+abbrev μ-loop : tie.MeasureT-loop
+μ-loop n table sum₀ p₀ sum p = length table - p
+
+loop-holds : tie.Need-loop-holds Inv-loop μ-loop
+unfolding orderLines
+loop-holds c = (omega arith, (c .pre), refl, omega arith)
+
+mul-order-length : tie.Need-mul-order-length Inv-loop μ-loop
+mul-order-length c = omega (arith, square-few (c .before .before .args .n) (c .before .loop .inv .1 .few), c .before .loop .inv .1 .square)
+
+shared-slice-copy-out-order-length : tie.Need-shared-slice-copy-out-order-length Inv-loop μ-loop
+shared-slice-copy-out-order-length c = search needs
+
+order-length-requires : tie.Need-order-length-requires Inv-loop μ-loop
+order-length-requires c κs = rw (back w16 (getD (c .before .before .before .args .table .now) (c .before .before .loop .p) (pos 0)) (c .order-length-arg .given)) (entry-tested (c .before .before .before .args .n) (c .before .before .before .args .table .now) (c .before .before .loop .p) (c .before .before .loop .inv .1) (omega arith))
+
+add-sum : tie.Need-add-sum Inv-loop μ-loop
+add-sum c = omega (arith, (simp (back w16 (getD (c .before .before .before .before .args .table .now) (c .before .before .before .loop .p) (pos 0)) (c .before .order-length-arg .given)) at (c .order-length .ensures)) .1, c .before .before .before .loop .inv .3, square-few (c .before .before .before .before .args .n) (c .before .before .before .loop .inv .1 .few), c .before .before .before .loop .inv .1 .square)
+
+add-p : tie.Need-add-p Inv-loop μ-loop
+add-p c = omega (arith, square-few (c .before .before .before .before .args .n) (c .before .before .before .loop .inv .1 .few), c .before .before .before .loop .inv .1 .square)
+
+loop-less : tie.Need-loop-less Inv-loop μ-loop
+loop-less c = search needs
+
+loop-again : tie.Need-loop-again Inv-loop μ-loop
+loop-again c = let l = (c .before .before .before .loop) in
+    let t = c .before .before .before .before .args .table .now in (
+      omega arith,
+      l .inv .1,
+      omega (arith, (simp (back w16 (getD (c .before .before .before .before .args .table .now) (c .before .before .before .loop .p) (pos 0)) (c .before .order-length-arg .given)) at (c .order-length .ensures)) .0, l .inv .2, ap length (order-lines-next t (l .p) (omega arith) (c .before .before .before .before .args .n)), length-append (orderLines (c .before .before .before .before .args .n) 0 (take (l .p) t)) (orderLine (c .before .before .before .before .args .n) (l .p) (getD t (l .p) (pos 0)))),
+      omega (arith, (simp (back w16 (getD (c .before .before .before .before .args .table .now) (c .before .before .before .loop .p) (pos 0)) (c .before .order-length-arg .given)) at (c .order-length .ensures)) .1, l .inv .3),
+    )
+
+returns : tie.Need-returns Inv-loop μ-loop
+returns c = let l = (c .before .loop) in
+    let t = c .before .before .args .table .now in
+    let e : l .p ≡ length t = omega arith in (
+      l .inv .2 ∙ ap (λ x. length (orderLines (c .before .before .args .n) 0 x)) (ap (λ i. take i t) e ∙ take-length t),
+      omega (arith, l .inv .3, square-few (c .before .before .args .n) (l .inv .1 .few), l .inv .1 .square),
+    )
+
+pub orders-length-spec : {M : Type 1} → statement M
+orders-length-spec =
+    tie.close
+    (tie.spec
+    Inv-loop
+    μ-loop
+    loop-holds
+    mul-order-length
+    shared-slice-copy-out-order-length
+    order-length-requires
+    add-sum
+    add-p
+    loop-less
+    loop-again
+    returns)

@@ -1,0 +1,88 @@
+-- The order lines so far are written, and the tail of the room is lent on. Assumes nothing.
+use borrow.Author.Needs.{needs}
+use native.Mathlib.Omega.{arith}
+use Prim.Native.Nat.{ℕ, _+_, _-_, _*_, _≤_, _<_}
+use mathlib.Core.Path.{_≡_, refl, sym, ap, subst, _∙_}
+use lib.ListN.{length, getD, set, take, drop, length-set, length-append, length-drop}
+use Rattle.writer.proofs.PutLaws.{puts-inside, puts-tail, puts-same, left-room, sum-fits, part-room, first-room, puts-length, puts-none}
+use Rattle.writer.proofs.OrderLaws.{entry-tested, square-few, order-lines-next, next-room, front-lines}
+use Rattle.orders.proofs.Entries.{back}
+use mir.Syntax.{w16}
+use lib.IntN.{pos}
+use lib.Seq.{take-length}
+use Rattle.sheet.specs.Sheet.{orderLine, orderLines}
+use Rattle.writer.specs.Parts.{Tested, Puts}
+use Rattle.writer.proofs.put_orders.Statement.{statement}
+use Rattle.writer.proofs.put_orders.Tie as tie
+
+abbrev Inv-loop : tie.InvT-loop
+Inv-loop n table out₀ at₀ p₀ out at p = (p ≤ length table) × Tested n table × (length (orderLines n 0 table) ≤ length out₀) × (length out ≡ length out₀) × Puts (orderLines n 0 (take p table)) out₀ out at
+
+abbrev μ-loop : tie.MeasureT-loop
+μ-loop n table out₀ at₀ p₀ out at p = length table - p
+
+loop-holds : tie.Need-loop-holds Inv-loop μ-loop
+unfolding orderLines
+loop-holds c = (omega arith, c .before .pre .0, c .before .pre .1, refl, puts-none (c .before .args .out .now))
+
+mul-put-order : tie.Need-mul-put-order Inv-loop μ-loop
+mul-put-order c = omega (arith, square-few (c .before .before .before .args .n) (c .before .loop .inv .1 .few), c .before .loop .inv .1 .square)
+
+shared-slice-copy-out-put-order : tie.Need-shared-slice-copy-out-put-order Inv-loop μ-loop
+shared-slice-copy-out-put-order c = search needs
+
+sub-put-order : tie.Need-sub-put-order Inv-loop μ-loop
+sub-put-order c = omega (arith, puts-inside (orderLines (c .before .before .before .before .args .n) 0 (take (c .before .before .loop .p) (c .before .before .before .before .args .table .now))) (c .before .before .before .before .args .out .now) (c .before .before .loop .out) (c .before .before .loop .at) (c .before .before .loop .inv .4) (omega (arith, next-room (c .before .before .before .before .args .n) (c .before .before .before .before .args .table .now) (c .before .before .loop .p) (c .before .before .before .before .args .out .now) (omega arith) (c .before .before .loop .inv .2))))
+
+part-put-order-start : tie.Need-part-put-order-start Inv-loop μ-loop
+part-put-order-start c = omega (arith, puts-inside (orderLines (c .before .before .before .before .args .n) 0 (take (c .before .before .loop .p) (c .before .before .before .before .args .table .now))) (c .before .before .before .before .args .out .now) (c .before .before .loop .out) (c .before .before .loop .at) (c .before .before .loop .inv .4) (omega (arith, next-room (c .before .before .before .before .args .n) (c .before .before .before .before .args .table .now) (c .before .before .loop .p) (c .before .before .before .before .args .out .now) (omega arith) (c .before .before .loop .inv .2))))
+
+part-put-order-end : tie.Need-part-put-order-end Inv-loop μ-loop
+part-put-order-end c = omega (arith, puts-inside (orderLines (c .before .before .before .before .args .n) 0 (take (c .before .before .loop .p) (c .before .before .before .before .args .table .now))) (c .before .before .before .before .args .out .now) (c .before .before .loop .out) (c .before .before .loop .at) (c .before .before .loop .inv .4) (omega (arith, next-room (c .before .before .before .before .args .n) (c .before .before .before .before .args .table .now) (c .before .before .loop .p) (c .before .before .before .before .args .out .now) (omega arith) (c .before .before .loop .inv .2))))
+
+put-order-requires : tie.Need-put-order-requires Inv-loop μ-loop
+put-order-requires c κs = rw (back w16 (getD (c .before .before .before .before .before .args .table .now) (c .before .before .before .loop .p) (pos 0)) (c .before .put-order-arg .given)) (entry-tested (c .before .before .before .before .before .args .n) (c .before .before .before .before .before .args .table .now) (c .before .before .before .loop .p) (c .before .before .before .loop .inv .1) (omega arith), left-room (orderLines (c .before .before .before .before .before .args .n) 0 (take (c .before .before .before .loop .p) (c .before .before .before .before .before .args .table .now))) (c .before .before .before .before .before .args .out .now) (c .before .before .before .loop .out) (c .before .before .before .loop .at) (c .before .before .before .loop .inv .4) (orderLine (c .before .before .before .before .before .args .n) (c .before .before .before .loop .p) (getD (c .before .before .before .before .before .args .table .now) (c .before .before .before .loop .p) (pos 0))) _ refl (next-room (c .before .before .before .before .before .args .n) (c .before .before .before .before .before .args .table .now) (c .before .before .before .loop .p) (c .before .before .before .before .before .args .out .now) (omega arith) (c .before .before .before .loop .inv .2)))
+
+add-at : tie.Need-add-at Inv-loop μ-loop
+add-at c = sum-fits (orderLines (c .before .before .before .before .before .before .before .before .args .n) 0 (take (c .before .before .before .before .before .before .loop .p) (c .before .before .before .before .before .before .before .before .args .table .now))) (c .before .before .before .before .before .before .before .before .args .out .now) (c .before .before .before .before .before .before .loop .out) (c .before .before .before .before .before .before .loop .at) (c .before .before .before .before .before .before .loop .inv .4) (orderLine (c .before .before .before .before .before .before .before .before .args .n) (c .before .before .before .before .before .before .loop .p) (getD (c .before .before .before .before .before .before .before .before .args .table .now) (c .before .before .before .before .before .before .loop .p) (pos 0))) _ _ (c .before .before .put-order .result) (puts-same _ (orderLine (c .before .before .before .before .before .before .before .before .args .n) (c .before .before .before .before .before .before .loop .p) (getD (c .before .before .before .before .before .before .before .before .args .table .now) (c .before .before .before .before .before .before .loop .p) (pos 0))) _ _ _ (ap (λ x. orderLine (c .before .before .before .before .before .before .before .before .args .n) (c .before .before .before .before .before .before .loop .p) x) (back w16 (getD (c .before .before .before .before .before .before .before .before .args .table .now) (c .before .before .before .before .before .before .loop .p) (pos 0)) (c .before .before .before .before .put-order-arg .given))) (c .before .before .put-order .ensures)) (next-room (c .before .before .before .before .before .before .before .before .args .n) (c .before .before .before .before .before .before .before .before .args .table .now) (c .before .before .before .before .before .before .loop .p) (c .before .before .before .before .before .before .before .before .args .out .now) (omega arith) (c .before .before .before .before .before .before .loop .inv .2)) (search needs)
+
+add-p : tie.Need-add-p Inv-loop μ-loop
+add-p c = omega (arith, square-few (c .before .before .before .before .before .before .before .before .args .n) (c .before .before .before .before .before .before .loop .inv .1 .few), c .before .before .before .before .before .before .loop .inv .1 .square)
+
+loop-less : tie.Need-loop-less Inv-loop μ-loop
+loop-less c = search needs
+
+loop-again : tie.Need-loop-again Inv-loop μ-loop
+loop-again c = let l = (c .before .before .before .before .before .before .loop) in
+    let t = c .before .before .before .before .before .before .before .before .args .table .now in
+    let q = puts-same _ (orderLines (c .before .before .before .before .before .before .before .before .args .n) 0 (take (l .p + 1) t)) (c .before .before .before .before .before .before .before .before .args .out .now) _ _ (sym (order-lines-next t (l .p) (omega arith) (c .before .before .before .before .before .before .before .before .args .n)))
+    (puts-tail (orderLines (c .before .before .before .before .before .before .before .before .args .n) 0 (take (c .before .before .before .before .before .before .loop .p) (c .before .before .before .before .before .before .before .before .args .table .now))) (c .before .before .before .before .before .before .before .before .args .out .now) (l .out) (l .at) (l .inv .4) (orderLine (c .before .before .before .before .before .before .before .before .args .n) (c .before .before .before .before .before .before .loop .p) (getD (c .before .before .before .before .before .before .before .before .args .table .now) (c .before .before .before .before .before .before .loop .p) (pos 0))) _ (c .before .before .put-order .result) _ refl (puts-same _ (orderLine (c .before .before .before .before .before .before .before .before .args .n) (c .before .before .before .before .before .before .loop .p) (getD (c .before .before .before .before .before .before .before .before .args .table .now) (c .before .before .before .before .before .before .loop .p) (pos 0))) _ _ _ (ap (λ x. orderLine (c .before .before .before .before .before .before .before .before .args .n) (c .before .before .before .before .before .before .loop .p) x) (back w16 (getD (c .before .before .before .before .before .before .before .before .args .table .now) (c .before .before .before .before .before .before .loop .p) (pos 0)) (c .before .before .before .before .put-order-arg .given))) (c .before .before .put-order .ensures)) (next-room (c .before .before .before .before .before .before .before .before .args .n) (c .before .before .before .before .before .before .before .before .args .table .now) (c .before .before .before .before .before .before .loop .p) (c .before .before .before .before .before .before .before .before .args .out .now) (omega arith) (c .before .before .before .before .before .before .loop .inv .2))) in
+    (omega arith, l .inv .1, l .inv .2, puts-length _ (c .before .before .before .before .before .before .before .before .args .out .now) _ _ q (omega (arith, front-lines (c .before .before .before .before .before .before .before .before .args .n) (l .p + 1) t, l .inv .2)), q)
+
+same-length : tie.Need-same-length Inv-loop μ-loop
+same-length c = c .before .loop .inv .3
+
+returns : tie.Need-returns Inv-loop μ-loop
+returns c = let t = c .before .before .before .args .table .now in
+    let e : c .before .loop .p ≡ length t = omega arith in
+    puts-same _ (orderLines (c .before .before .before .args .n) 0 t) (c .before .before .before .args .out .now) (c .before .loop .out) (c .before .loop .at) (ap (λ x. orderLines (c .before .before .before .args .n) 0 x) (ap (λ i. take i t) e ∙ take-length t)) (c .before .loop .inv .4)
+
+pub put-orders-spec : {M : Type 1} → statement M
+put-orders-spec =
+    tie.close
+    (tie.spec
+    Inv-loop
+    μ-loop
+    loop-holds
+    mul-put-order
+    shared-slice-copy-out-put-order
+    sub-put-order
+    part-put-order-start
+    part-put-order-end
+    put-order-requires
+    add-at
+    add-p
+    loop-less
+    loop-again
+    same-length
+    returns)

@@ -1,0 +1,60 @@
+-- What the functions inside the writer tell each other.
+use mathlib.Core.Path.{_≡_}
+use mathlib.Core.Logic.{_≢_}
+use mathlib.Core.Bool.{cond}
+use mathlib.Core.List.{List, [], _∷_, _++_}
+use Prim.Native.Nat.{ℕ, zero, suc, _+_, _*_, _≤_, _<_}
+use lib.Dec.{eqb}
+use lib.IntN.{ℤ}
+use lib.ListN.{length, getD, take, drop}
+use Rattle.theory.specs.Limits.{rows, order}
+use Rattle.theory.specs.Table.{Present, Order, Entries}
+use Rattle.sheet.specs.Text.{over, text, ended, rowsHead, colsHead}
+use Rattle.sheet.specs.Sheet.{labelLines, orderSection}
+use Rattle.sheet.specs.Labels.{width, Form, slot}
+
+-- a text was written over the front of a room, and r is its length
+pub record Puts (text room room′ : List ℕ) (r : ℕ) : Type 0 where
+  pub is-length : r ≡ length text
+  pub is : room′ ≡ over text room
+
+-- the bytes before the first zero byte
+unfoldable pub labelOf : List ℕ → List ℕ
+labelOf [] = []
+labelOf (b ∷ s) = cond (eqb b 0) [] (b ∷ labelOf s)
+
+-- the labels in the first n places of a buffer
+unfoldable pub labelsOf : ℕ → List ℕ → List (List ℕ)
+labelsOf zero b = []
+labelsOf (suc n) b = labelOf (take width b) ∷ labelsOf n (drop width b)
+
+-- a place holds a label, filled up with zero bytes
+pub record SlotStands (s : List ℕ) : Type 0 where
+  pub form : Form (labelOf s)
+  pub zeros : (k : ℕ) → length (labelOf s) ≤ k → k < length s → getD s k 0 ≡ 0
+
+-- the first n places of a buffer hold labels, no two alike
+pub record BufferStands (n : ℕ) (b : List ℕ) : Type 0 where
+  pub forms : (k : ℕ) → k < n → SlotStands (slot b k)
+  pub apart : (i k : ℕ) → i < k → k < n → slot b i ≢ slot b k
+
+-- a table that was tested: its size, its length and its entries
+pub record Tested (n : ℕ) (t : List ℤ) : Type 0 where
+  pub some : 1 ≤ n
+  pub few : n ≤ rows
+  pub square : length t ≡ n * n
+  pub entries-stand : Entries order t
+
+-- an entry that was tested, at a place of the table
+pub record EntryTested (n p : ℕ) (v : ℤ) : Type 0 where
+  pub some : 1 ≤ n
+  pub few : n ≤ rows
+  pub place : p < n * n
+  pub stands : Present v → Order order v
+
+-- the sheet of what is handed, as it is written section by section
+abbrev pub restText : ℕ → List ℤ → List ℕ → List ℕ
+restText n t c = (ended (colsHead ++ text n) ++ labelLines (labelsOf n c)) ++ orderSection n t
+
+abbrev pub sheetText : ℕ → List ℤ → List ℕ → List ℕ → List ℕ
+sheetText n t r c = (ended (rowsHead ++ text n) ++ labelLines (labelsOf n r)) ++ restText n t c

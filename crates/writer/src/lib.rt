@@ -1,0 +1,398 @@
+ghost use mathlib.Core.Path.{_≡_};
+ghost use mathlib.Core.List.{List, [], _∷_, _++_};
+ghost use Prim.Native.Nat.{ℕ, _+_, _*_, _/_, _%_, _<_, _≤_};
+ghost use lib.IntN.{natAbs};
+ghost use lib.ListN.{length, getD, take, drop};
+ghost use Rattle.orders.specs.Tested.{Tells};
+ghost use Rattle.theory.specs.Limits.{order};
+ghost use Rattle.theory.specs.Table.{Order};
+ghost use Rattle.sheet.specs.Text.{text, signed, ended, blank};
+ghost use Rattle.sheet.specs.Sheet.{presentCount, labelLines, orderLine, orderLines, orderSection};
+ghost use Rattle.writer.specs.Parts.{Puts, labelOf, labelsOf, SlotStands, BufferStands, Tested, EntryTested, restText, sheetText};
+ghost use Rattle.writer.specs.Promise.{WritePromise, handed, says};
+use orders::ABSENT;
+use orders::ROWS;
+use orders::Refusal;
+
+const FEED: u8 = 10;
+
+const BLANK: u8 = 32;
+
+const MINUS: u8 = 45;
+
+// The sheet's length, or the refusal.
+pub enum Written {
+    Bytes(usize),
+    Refused(Refusal),
+}
+
+// The digits of a number.
+fn digits(v: usize) -> usize
+    ensures { λ r. ⌜ r ≡ length (text v) ⌝ }
+{
+    if v < 10 {
+        return 1;
+    }
+    digits(v / 10) + 1
+}
+
+// A number at the front of the room; its length.
+fn put_number(v: usize, out: &mut [u8]) -> usize
+    requires { ⌜ length (text v) ≤ length (now out) ⌝ }
+    ensures { λ r. ⌜ Puts (text v) (now (out .entry)) (now (out .exit)) r ⌝ }
+{
+    if v < 10 {
+        out[0] = 48 + v as u8;
+        return 1;
+    }
+    let k = put_number(v / 10, out);
+    out[k] = 48 + (v % 10) as u8;
+    k + 1
+}
+
+// Bytes at the front of the room; their number.
+fn put(text: &[u8], out: &mut [u8]) -> usize
+    requires { ⌜ length (now text) ≤ length (now out) ⌝ }
+    ensures { λ r. ⌜ Puts (now (text .entry)) (now (out .entry)) (now (out .exit)) r ⌝ }
+{
+    let mut i = 0;
+    while i < text.len() {
+        out[i] = text[i];
+        i += 1;
+    }
+    i
+}
+
+// A number and one byte behind it.
+fn put_count(v: usize, last: u8, out: &mut [u8]) -> usize
+    requires { ⌜ length (text v ++ last ∷ []) ≤ length (now out) ⌝ }
+    ensures { λ r. ⌜ Puts (text v ++ last ∷ []) (now (out .entry)) (now (out .exit)) r ⌝ }
+{
+    let k = put_number(v, out);
+    out[k] = last;
+    k + 1
+}
+
+// A heading line in the room.
+fn put_heading(head: &[u8], count: usize, out: &mut [u8]) -> usize
+    requires { ⌜ length (ended (now head ++ text count)) ≤ length (now out) ⌝ }
+    ensures { λ r. ⌜ Puts (ended (now (head .entry) ++ text count)) (now (out .entry)) (now (out .exit)) r ⌝ }
+{
+    let a = put(head, out);
+    let b = put_count(count, FEED, &mut out[a..]);
+    a + b
+}
+
+// The bytes before the first zero byte.
+fn label_length(slot: &[u8]) -> usize
+    ensures { λ r. ⌜ r ≡ length (labelOf (now (slot .entry))) ⌝ }
+{
+    let mut i = 0;
+    while i < slot.len() {
+        if slot[i] == 0 {
+            return i;
+        }
+        i += 1;
+    }
+    i
+}
+
+// Are these bytes all zero?
+fn all_zero(s: &[u8]) -> bool
+    ensures { λ r. ⌜ Tells r ((k : ℕ) → k < length (now (s .entry)) → getD (now (s .entry)) k 0 ≡ 0) ⌝ }
+{
+    let mut i = 0;
+    while i < s.len() {
+        if s[i] != 0 {
+            return false;
+        }
+        i += 1;
+    }
+    true
+}
+
+// Do the 8 bytes hold a label, filled up with zero bytes?
+fn slot_stands(slot: &[u8]) -> bool
+    ensures { λ r. ⌜ Tells r (SlotStands (now (slot .entry))) ⌝ }
+{
+    let k = label_length(slot);
+    if sheet::label_stands(&slot[..k]) {
+        all_zero(&slot[k..])
+    } else {
+        false
+    }
+}
+
+// Does a buffer hold n labels, each of its form and unlike the others?
+fn labels_stand(n: usize, labels: &[u8]) -> bool
+    requires { ⌜ 8 * n ≤ length (now labels) ⌝ }
+    ensures { λ r. ⌜ Tells r (BufferStands n (now (labels .entry))) ⌝ }
+{
+    let mut k = 0;
+    while k < n {
+        let a = 8 * k;
+        let b = a + 8;
+        if !slot_stands(&labels[a..b]) {
+            return false;
+        }
+        if sheet::repeated(labels, k) {
+            return false;
+        }
+        k += 1;
+    }
+    true
+}
+
+// The bytes of the label lines.
+fn labels_length(n: usize, labels: &[u8]) -> usize
+    requires { ⌜ (n ≤ 32) × (8 * n ≤ length (now labels)) ⌝ }
+    ensures { λ r. ⌜ (r ≡ length (labelLines (labelsOf n (now (labels .entry))))) × (r ≤ 9 * n) ⌝ }
+{
+    let mut sum: usize = 0;
+    let mut k = 0;
+    while k < n {
+        let a = 8 * k;
+        let b = a + 8;
+        sum += label_length(&labels[a..b]) + 1;
+        k += 1;
+    }
+    sum
+}
+
+// A label line in the room.
+fn put_label(slot: &[u8], out: &mut [u8]) -> usize
+    requires { ⌜ length (ended (labelOf (now slot))) ≤ length (now out) ⌝ }
+    ensures { λ r. ⌜ Puts (ended (labelOf (now (slot .entry)))) (now (out .entry)) (now (out .exit)) r ⌝ }
+{
+    let k = label_length(slot);
+    let a = put(&slot[..k], out);
+    out[a] = FEED;
+    a + 1
+}
+
+// The label lines in the room.
+fn put_labels(n: usize, labels: &[u8], out: &mut [u8]) -> usize
+    requires { ⌜ (8 * n ≤ length (now labels)) × (length (labelLines (labelsOf n (now labels))) ≤ length (now out)) ⌝ }
+    ensures { λ r. ⌜ Puts (labelLines (labelsOf n (now (labels .entry)))) (now (out .entry)) (now (out .exit)) r ⌝ }
+{
+    let mut at: usize = 0;
+    let mut k = 0;
+    while k < n {
+        let a = 8 * k;
+        let b = a + 8;
+        at += put_label(&labels[a..b], &mut out[at..]);
+        k += 1;
+    }
+    at
+}
+
+// The present places of a table.
+fn present_count(table: &[i16]) -> usize
+    ensures { λ r. ⌜ r ≡ presentCount (now (table .entry)) ⌝ }
+{
+    let mut count: usize = 0;
+    let mut p = 0;
+    while p < table.len() {
+        if table[p] != ABSENT {
+            count += 1;
+        }
+        p += 1;
+    }
+    count
+}
+
+// An order without its sign.
+fn magnitude(v: i16) -> usize
+    requires { ⌜ Order order v ⌝ }
+    ensures { λ r. ⌜ r ≡ natAbs v ⌝ }
+{
+    if v < 0 {
+        return (-v) as usize;
+    }
+    v as usize
+}
+
+// The bytes of an order.
+fn value_length(v: i16) -> usize
+    requires { ⌜ Order order v ⌝ }
+    ensures { λ r. ⌜ (r ≡ length (signed v)) × (r ≤ 4) ⌝ }
+{
+    let size = magnitude(v);
+    if v < 0 {
+        return digits(size) + 1;
+    }
+    digits(size)
+}
+
+// An order in the room.
+fn put_value(v: i16, out: &mut [u8]) -> usize
+    requires { ⌜ (Order order v) × (length (signed v) ≤ length (now out)) ⌝ }
+    ensures { λ r. ⌜ Puts (signed v) (now (out .entry)) (now (out .exit)) r ⌝ }
+{
+    let size = magnitude(v);
+    if v < 0 {
+        out[0] = MINUS;
+        let k = put_number(size, &mut out[1..]);
+        return 1 + k;
+    }
+    put_number(size, out)
+}
+
+// The bytes of the line of place p.
+fn order_length(n: usize, p: usize, v: i16) -> usize
+    requires { ⌜ EntryTested n p v ⌝ }
+    ensures { λ r. ⌜ (r ≡ length (orderLine n p v)) × (r ≤ 16) ⌝ }
+{
+    if v == ABSENT {
+        return 0;
+    }
+    digits(p / n + 1) + digits(p % n + 1) + value_length(v) + 3
+}
+
+// An order and a line feed.
+fn put_value_line(v: i16, out: &mut [u8]) -> usize
+    requires { ⌜ (Order order v) × (length (ended (signed v)) ≤ length (now out)) ⌝ }
+    ensures { λ r. ⌜ Puts (ended (signed v)) (now (out .entry)) (now (out .exit)) r ⌝ }
+{
+    let k = put_value(v, out);
+    out[k] = FEED;
+    k + 1
+}
+
+// The column and the order of a line.
+fn put_order_end(n: usize, p: usize, v: i16, out: &mut [u8]) -> usize
+    requires { ⌜ (1 ≤ n) × (n ≤ 32) × (Order order v) × (length ((text (p % n + 1) ++ blank ∷ []) ++ ended (signed v)) ≤ length (now out)) ⌝ }
+    ensures { λ r. ⌜ Puts ((text (p % n + 1) ++ blank ∷ []) ++ ended (signed v)) (now (out .entry)) (now (out .exit)) r ⌝ }
+{
+    let a = put_count(p % n + 1, BLANK, out);
+    let b = put_value_line(v, &mut out[a..]);
+    a + b
+}
+
+// The line of place p in the room; none where the place is absent.
+fn put_order(n: usize, p: usize, v: i16, out: &mut [u8]) -> usize
+    requires { ⌜ (EntryTested n p v) × (length (orderLine n p v) ≤ length (now out)) ⌝ }
+    ensures { λ r. ⌜ Puts (orderLine n p v) (now (out .entry)) (now (out .exit)) r ⌝ }
+{
+    if v == ABSENT {
+        return 0;
+    }
+    let a = put_count(p / n + 1, BLANK, out);
+    let b = put_order_end(n, p, v, &mut out[a..]);
+    a + b
+}
+
+fn orders_length(n: usize, table: &[i16]) -> usize
+    requires { ⌜ Tested n (now table) ⌝ }
+    ensures { λ r. ⌜ (r ≡ length (orderLines n 0 (now (table .entry)))) × (r ≤ 16384) ⌝ }
+{
+    let mut sum: usize = 0;
+    let mut p = 0;
+    while p < table.len() {
+        sum += order_length(n, p, table[p]);
+        p += 1;
+    }
+    sum
+}
+
+fn put_orders(n: usize, table: &[i16], out: &mut [u8]) -> usize
+    requires { ⌜ (Tested n (now table)) × (length (orderLines n 0 (now table)) ≤ length (now out)) ⌝ }
+    ensures { λ r. ⌜ Puts (orderLines n 0 (now (table .entry))) (now (out .entry)) (now (out .exit)) r ⌝ }
+{
+    let mut at: usize = 0;
+    let mut p = 0;
+    while p < table.len() {
+        at += put_order(n, p, table[p], &mut out[at..]);
+        p += 1;
+    }
+    at
+}
+
+// A section of labels in the room.
+fn put_label_section(head: &[u8], n: usize, labels: &[u8], out: &mut [u8]) -> usize
+    requires { ⌜ (8 * n ≤ length (now labels)) × (length (ended (now head ++ text n) ++ labelLines (labelsOf n (now labels))) ≤ length (now out)) ⌝ }
+    ensures { λ r. ⌜ Puts (ended (now (head .entry) ++ text n) ++ labelLines (labelsOf n (now (labels .entry)))) (now (out .entry)) (now (out .exit)) r ⌝ }
+{
+    let a = put_heading(head, n, out);
+    let b = put_labels(n, labels, &mut out[a..]);
+    a + b
+}
+
+// The section of orders in the room.
+fn put_order_section(n: usize, table: &[i16], out: &mut [u8]) -> usize
+    requires { ⌜ (Tested n (now table)) × (length (orderSection n (now table)) ≤ length (now out)) ⌝ }
+    ensures { λ r. ⌜ Puts (orderSection n (now (table .entry))) (now (out .entry)) (now (out .exit)) r ⌝ }
+{
+    let count = present_count(table);
+    let a = put_heading(b"orders ", count, out);
+    let b = put_orders(n, table, &mut out[a..]);
+    a + b
+}
+
+fn sheet_length(n: usize, table: &[i16], rows: &[u8], cols: &[u8]) -> usize
+    requires { ⌜ (Tested n (now table)) × (8 * n ≤ length (now rows)) × (8 * n ≤ length (now cols)) ⌝ }
+    ensures { λ r. ⌜ r ≡ length (sheetText n (now (table .entry)) (now (rows .entry)) (now (cols .entry))) ⌝ }
+{
+    let head = digits(n) + 6;
+    let a = head + labels_length(n, rows);
+    let b = head + labels_length(n, cols);
+    let c = digits(present_count(table)) + 8 + orders_length(n, table);
+    a + b + c
+}
+
+// The sections from `cols` on in the room.
+fn put_rest(n: usize, table: &[i16], cols: &[u8], out: &mut [u8]) -> usize
+    requires { ⌜ (Tested n (now table)) × (8 * n ≤ length (now cols)) × (length (restText n (now table) (now cols)) ≤ length (now out)) ⌝ }
+    ensures { λ r. ⌜ Puts (restText n (now (table .entry)) (now (cols .entry))) (now (out .entry)) (now (out .exit)) r ⌝ }
+{
+    let a = put_label_section(b"cols ", n, cols, out);
+    let b = put_order_section(n, table, &mut out[a..]);
+    a + b
+}
+
+// The sheet in the room: each section in the room that the sections before it left free.
+fn put_sheet(n: usize, table: &[i16], rows: &[u8], cols: &[u8], out: &mut [u8]) -> usize
+    requires { ⌜ (Tested n (now table)) × (8 * n ≤ length (now rows)) × (8 * n ≤ length (now cols)) × (length (sheetText n (now table) (now rows) (now cols)) ≤ length (now out)) ⌝ }
+    ensures { λ r. ⌜ Puts (sheetText n (now (table .entry)) (now (rows .entry)) (now (cols .entry))) (now (out .entry)) (now (out .exit)) r ⌝ }
+{
+    let a = put_label_section(b"rows ", n, rows, out);
+    let b = put_rest(n, table, cols, &mut out[a..]);
+    a + b
+}
+
+// Writes a sheet and tells its length; or the lowest refusal that applies, with nothing written. The promise rules out a writer that
+// writes any but the one sheet of what it was handed, that writes into a room before it knows that the sheet fits, or that touches
+// bytes after the sheet.
+pub fn write_sheet(n: usize, table: &[i16], rows: &[u8], cols: &[u8], out: &mut [u8]) -> Written
+    ensures { λ r. ⌜ WritePromise (handed n (now (table .entry)) (now (rows .entry)) (now (cols .entry))) (now (out .entry)) (now (out .exit)) (says r) ⌝ }
+{
+    if n == 0 {
+        return Written::Refused(Refusal::Size);
+    }
+    if ROWS < n {
+        return Written::Refused(Refusal::Size);
+    }
+    if table.len() != n * n {
+        return Written::Refused(Refusal::Length);
+    }
+    if rows.len() != 8 * n {
+        return Written::Refused(Refusal::Length);
+    }
+    if cols.len() != 8 * n {
+        return Written::Refused(Refusal::Length);
+    }
+    if !orders::entries_stand(table) {
+        return Written::Refused(Refusal::Entry);
+    }
+    if !labels_stand(n, rows) {
+        return Written::Refused(Refusal::Label);
+    }
+    if !labels_stand(n, cols) {
+        return Written::Refused(Refusal::Label);
+    }
+    if out.len() < sheet_length(n, table, rows, cols) {
+        return Written::Refused(Refusal::Room);
+    }
+    let k = put_sheet(n, table, rows, cols, out);
+    Written::Bytes(k)
+}

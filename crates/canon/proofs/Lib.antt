@@ -1,2 +1,4 @@
 pub mod Refusing
 pub mod Answering
+pub mod Unique
+pub mod Theorems

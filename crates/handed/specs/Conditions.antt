@@ -70,6 +70,9 @@ abbrev pub canon-tests : ℕ → List ℤ → List ℕ → List ℕ → List Tes
 canon-tests n t given ks = basic n t ks (canon-more n t given)
 
 -- route 3: "never gives 4 or 7"
+abbrev pub star-more : ℕ → List ℤ → List ℕ → List Test
+star-more n t given =
+    _given-when_ 5 (WrongStars n given) ∷ _given-when_ 6 (NoTransversal n t) ∷ _given-when_ 8 (NotGreatest n t given) ∷ []
+
 abbrev pub star-tests : ℕ → List ℤ → List ℕ → List ℕ → List Test
-star-tests n t given ks =
-    basic n t ks (_given-when_ 5 (WrongStars n given) ∷ _given-when_ 6 (NoTransversal n t) ∷ _given-when_ 8 (NotGreatest n t given) ∷ [])
+star-tests n t given ks = basic n t ks (star-more n t given)

@@ -1,0 +1,194 @@
+-- What the promises mean together, for the customer: about the promises, not about the code. Assumes nothing.
+use mathlib.Core.Path.{_≡_, refl, sym, _∙_, ap}
+use mathlib.Core.Logic.{_⊎_, inl, inr}
+use mathlib.Core.Bool.{true, false}
+use mathlib.Core.List.{List, [], _∷_}
+use Prim.Native.Nat.{ℕ, _*_, _≤_, _<_}
+use native.Mathlib.Omega.{arith}
+use lib.IntN.{ℤ}
+use lib.ListN.{length, getD}
+use lib.Seq.{ext-getD}
+use Rattle.theory.specs.Limits.{rows, order, handed}
+use Rattle.theory.specs.Lists.{nums, ints, columns, StarList}
+use Rattle.theory.specs.Table.{entry, Entries}
+use Rattle.theory.specs.Canon.{Transversal, Canon, Simplest, Greatest, Misplaced, on-absent, exceeded, Solution, Balance}
+use Rattle.theory.proofs.Signed.{signed}
+use Rattle.theory.proofs.Duality.{balance}
+use Rattle.theory.proofs.Unique.{least-once}
+use Rattle.orders.specs.Refusals.{Test, Lowest, Clear, gives, refuses}
+use Rattle.orders.proofs.Refusals.{lowest-once, lowest-clear}
+use Rattle.handed.specs.Conditions.{OutOfSize, Fitting, NoTransversal, NoCanon, NotGreatest, _given-when_, basic, canon-more, canon-tests, star-more, star-tests}
+use Rattle.canon.specs.Answers.{said, judged}
+use Rattle.canon.specs.Promises.{Routed, refused, answered, Solves, Lowers, Raises, Judges, declines, says-yes, says-no}
+use Rattle.canon.specs.declared.Answer.{Answer}
+use Rattle.canon.specs.declared.Verdict.{Verdict}
+use Rattle.canon.proofs.Unique.{One, solved-once, given-once, not-both}
+
+-- a transversal of greatest sum is not misplaced
+well-placed : {n : ℕ} {a : ℕ → ℕ → ℤ} {σ : ℕ → ℕ} → Greatest n a σ → Misplaced n a σ → ⊥
+well-placed g (on-absent i hi e) = g .transversal .present i hi e
+well-placed {n} {a} {σ} g (exceeded τ t lt) = omega (arith, signed, g .greatest τ t)
+
+-- "a well-formed table, in slices of the wanted length"
+pub record WellFormed (n : ℕ) (t : List ℤ) (adds stars : List ℕ) (heads : List ℤ) : Type 0 where
+  pub some : (n ≡ 0) → ⊥
+  pub few : n ≤ rows
+  pub square : length t ≡ n * n
+  pub entries : Entries order t
+  pub adds-long : length adds ≡ n
+  pub stars-long : length stars ≡ n
+  pub heads-long : length heads ≡ n
+
+-- what a call leaves behind, and that it refused by k with everything as it was
+pub record Kept (k : ℕ) (r : Answer) (adds adds′ stars stars′ : List ℕ) (heads heads′ : List ℤ) : Type 0 where
+  pub refusal : said r ≡ refuses k []
+  pub adds-kept : adds′ ≡ adds
+  pub stars-kept : stars′ ≡ stars
+  pub heads-kept : heads′ ≡ heads
+
+module _ {n : ℕ} {t : List ℤ} {adds stars : List ℕ} {heads : List ℤ} (w : WellFormed n t adds stars heads) where
+  in-size : OutOfSize n → ⊥
+  in-size (inl e) = w .some e
+  in-size (inr gt) = omega (arith, w .few)
+
+  -- of a call with these slices, and others of length n, the first three refusals do not apply
+  later : (more : List Test) (ks : List ℕ) → Fitting n ks → (k : ℕ) → Lowest (basic n t ks more) k → Lowest more k
+  later more ks f k (inl p) = absurd (in-size (p .0))
+  later more ks f k (inr (x, inl p)) = absurd (p .0 (w .square, f))
+  later more ks f k (inr (x, inr (y, inl p))) = absurd (p .0 (w .entries))
+  later more ks f k (inr (x, inr (y, inr (z, l)))) = l
+
+  own : Fitting n (length adds ∷ length stars ∷ length heads ∷ [])
+  own = (w .adds-long, (w .stars-long, (w .heads-long, tt)))
+
+  -- ---- demand 3
+  module _ {r : Answer} {adds′ stars′ : List ℕ} {heads′ : List ℤ} (p : Solves n t adds stars heads r adds′ stars′ heads′) where
+    -- "Taken alone, a well-formed table, in slices of the wanted length, is refused exactly when no complete transversal of present
+    -- orders exists": then by 6, and everything is as it was
+    pub refused-if-none : NoTransversal n t → Kept 6 r adds adds′ stars stars′ heads heads′
+    refused-if-none none = go p
+      where
+        only : (k : ℕ) → Lowest (_given-when_ 6 (NoTransversal n t) ∷ []) k → k ≡ 6
+        only k (inl q) = q .1
+        only k (inr q) = absurd (q .1)
+
+        go : Solves n t adds stars heads r adds′ stars′ heads′ → Kept 6 r adds adds′ stars stars′ heads heads′
+        go (refused k l says x y z) =
+            record {
+              refusal = says ∙ ap (λ (i : ℕ). refuses i []) (only k (later (_given-when_ 6 (NoTransversal n t) ∷ []) (length adds ∷ length stars ∷ length heads ∷ []) own k l));
+              adds-kept = x;
+              stars-kept = y;
+              heads-kept = z;
+            }
+        go (answered s clear says la ls lh sol) = absurd (clear .1 .1 .1 .0 none)
+
+    pub none-if-refused : (k : ℕ) → said r ≡ refuses k [] → NoTransversal n t
+    none-if-refused k e = go p
+      where
+        only : (k : ℕ) → Lowest (_given-when_ 6 (NoTransversal n t) ∷ []) k → NoTransversal n t
+        only k (inl q) = q .0
+        only k (inr q) = absurd (q .1)
+
+        go : Solves n t adds stars heads r adds′ stars′ heads′ → NoTransversal n t
+        go (refused j l says x y z) = only j (later (_given-when_ 6 (NoTransversal n t) ∷ []) (length adds ∷ length stars ∷ length heads ∷ []) own j l)
+        go (answered s clear says la ls lh sol) = not-both s k [] (sym says ∙ e)
+
+-- "Otherwise the sum is the column maxima less the additions, no complete transversal has a greater one, and one reaches it exactly
+-- when each of its orders, with its row's addition, is its column's maximum": of any route
+pub demand-3 : {tests : List Test} {n : ℕ} {t : List ℤ} {adds stars : List ℕ} {heads : List ℤ} {r : Answer} {adds′ stars′ : List ℕ} {heads′ : List ℤ} {s : ℤ}
+    → Routed tests n t adds stars heads r adds′ stars′ heads′ → said r ≡ gives s → Balance n (entry t n) (nums adds′) (ints heads′) s
+demand-3 {s = s} (refused k l says x y z) e = not-both s k [] (sym e ∙ says)
+demand-3 {n = n} {t = t} {adds′ = adds′} {heads′ = heads′} {s = s} (answered z clear says la ls lh sol) e =
+    rw (given-once s z (sym e ∙ says), sol .is-sum) (balance n (entry t n) (sol .heads) (sol .stars .of-maxima))
+
+-- ---- demand 2: all starts that lead lead to one answer, others are refused
+-- a start of route 2 in the wanted form
+pub record Additions (n : ℕ) (given : List ℕ) : Type 0 where
+  pub long : length given ≡ n
+  pub limited : (i : ℕ) → i < length given → nums given i ≤ handed
+
+module _ {n : ℕ} {t : List ℤ} {adds stars : List ℕ} {heads : List ℤ} (given : List ℕ) (w : WellFormed n t adds stars heads) (k : ℕ) where
+  -- what is left of the tests of route 2 and of route 3 in well-formed calls
+  canon-left : Additions n given → Lowest (canon-tests n t given (length given ∷ length adds ∷ length stars ∷ length heads ∷ [])) k
+      → (NoTransversal n t × (k ≡ 6)) ⊎ (NoCanon n t given × (k ≡ 7))
+  canon-left g l = go (later w (canon-more n t given) (length given ∷ length adds ∷ length stars ∷ length heads ∷ []) (g .long, own w) k l)
+    where
+      go : Lowest (canon-more n t given) k → (NoTransversal n t × (k ≡ 6)) ⊎ (NoCanon n t given × (k ≡ 7))
+      go (inl p) = absurd (p .0 (g .limited))
+      go (inr (x, inl p)) = inl p
+      go (inr (x, inr (y, inl p))) = inr p
+      go (inr (x, inr (y, inr p))) = absurd (p .1)
+
+  star-left : StarList n given → Lowest (star-tests n t given (length given ∷ length adds ∷ length stars ∷ length heads ∷ [])) k
+      → (NoTransversal n t × (k ≡ 6)) ⊎ (NotGreatest n t given × (k ≡ 8))
+  star-left g l = go (later w (star-more n t given) (length given ∷ length adds ∷ length stars ∷ length heads ∷ []) (g .long, own w) k l)
+    where
+      go : Lowest (star-more n t given) k → (NoTransversal n t × (k ≡ 6)) ⊎ (NotGreatest n t given × (k ≡ 8))
+      go (inl p) = absurd (p .0 g)
+      go (inr (x, inl p)) = inl p
+      go (inr (x, inr (y, inl p))) = inr p
+      go (inr (x, inr (y, inr p))) = absurd (p .1)
+
+module _ {n : ℕ} {t : List ℤ} {given adds stars : List ℕ} {heads : List ℤ} {r : Answer} {adds′ stars′ : List ℕ} {heads′ : List ℤ}
+    (w : WellFormed n t adds stars heads) where
+  -- "Any canon within the stated limit .. leads to the same answer": the answer of route 1, in result and in lent memory
+  pub canon-leads : {a b : List ℕ} {c : List ℤ} {q : Answer} {a′ b′ : List ℕ} {c′ : List ℤ} → Additions n given → Canon n (entry t n) (nums given)
+      → Lowers n t given adds stars heads r adds′ stars′ heads′ → WellFormed n t a b c → Solves n t a b c q a′ b′ c′
+      → One r q adds′ a′ stars′ b′ heads′ c′
+  canon-leads g canon (refused k l says x y z) v p = absurd (go (canon-left given w k g l))
+    where
+      go : (NoTransversal n t × (k ≡ 6)) ⊎ (NoCanon n t given × (k ≡ 7)) → ⊥
+      go (inl q) = q .0 (canon .columns) (canon .of-maxima .transversal)
+      go (inr q) = q .0 canon
+  canon-leads {q = q} g canon (answered s clear says la ls lh sol) v (refused k l said′ x y z) =
+      absurd (none-if-refused v {r = q} (refused k l said′ x y z) k said′ (canon .columns) (canon .of-maxima .transversal))
+  canon-leads {a′ = a′} {b′ = b′} {c′ = c′} g canon (answered s clear says la ls lh sol) v (answered s′ clear′ says′ la′ ls′ lh′ sol′) =
+      solved-once adds′ a′ stars′ b′ heads′ c′ says says′ la la′ ls ls′ lh lh′ sol sol′
+
+  -- "or any transversal of greatest sum"
+  pub greatest-leads : {a b : List ℕ} {c : List ℤ} {q : Answer} {a′ b′ : List ℕ} {c′ : List ℤ} → StarList n given → Greatest n (entry t n) (columns given)
+      → Raises n t given adds stars heads r adds′ stars′ heads′ → WellFormed n t a b c → Solves n t a b c q a′ b′ c′
+      → One r q adds′ a′ stars′ b′ heads′ c′
+  greatest-leads g top (refused k l says x y z) v p = absurd (go (star-left given w k g l))
+    where
+      go : (NoTransversal n t × (k ≡ 6)) ⊎ (NotGreatest n t given × (k ≡ 8)) → ⊥
+      go (inl q) = q .0 (columns given) (top .transversal)
+      go (inr q) = well-placed top (q .0)
+  greatest-leads {q = q} g top (answered s clear says la ls lh sol) v (refused k l said′ x y z) =
+      absurd (none-if-refused v {r = q} (refused k l said′ x y z) k said′ (columns given) (top .transversal))
+  greatest-leads {a′ = a′} {b′ = b′} {c′ = c′} g top (answered s clear says la ls lh sol) v (answered s′ clear′ says′ la′ ls′ lh′ sol′) =
+      solved-once adds′ a′ stars′ b′ heads′ c′ says says′ la la′ ls ls′ lh lh′ sol sol′
+
+  -- "other starts are refused": additions that are no canon by 7, stars that are misplaced by 8, though a transversal exists
+  pub no-canon-refused : (σ : ℕ → ℕ) → Transversal n (entry t n) σ → Additions n given → NoCanon n t given → Lowers n t given adds stars heads r adds′ stars′ heads′
+      → Kept 7 r adds adds′ stars stars′ heads heads′
+  no-canon-refused σ tr g none (refused k l says x y z) =
+      record { refusal = says ∙ ap (λ (i : ℕ). refuses i []) (go (canon-left given w k g l)); adds-kept = x; stars-kept = y; heads-kept = z }
+    where
+      go : (NoTransversal n t × (k ≡ 6)) ⊎ (NoCanon n t given × (k ≡ 7)) → k ≡ 7
+      go (inl q) = absurd (q .0 σ tr)
+      go (inr q) = q .1
+  no-canon-refused σ tr g none (answered s clear says la ls lh sol) = absurd (clear .1 .1 .1 .1 .1 .0 none)
+
+  pub misplaced-refused : (σ : ℕ → ℕ) → Transversal n (entry t n) σ → StarList n given → NotGreatest n t given → Raises n t given adds stars heads r adds′ stars′ heads′
+      → Kept 8 r adds adds′ stars stars′ heads heads′
+  misplaced-refused σ tr g wrong (refused k l says x y z) =
+      record { refusal = says ∙ ap (λ (i : ℕ). refuses i []) (go (star-left given w k g l)); adds-kept = x; stars-kept = y; heads-kept = z }
+    where
+      go : (NoTransversal n t × (k ≡ 6)) ⊎ (NotGreatest n t given × (k ≡ 8)) → k ≡ 8
+      go (inl q) = absurd (q .0 σ tr)
+      go (inr q) = q .1
+  misplaced-refused σ tr g wrong (answered s clear says la ls lh sol) = absurd (clear .1 .1 .1 .1 .1 .0 wrong)
+
+-- ---- "The yes-or-no says yes to these additions only"
+module _ {n : ℕ} {t : List ℤ} {given : List ℕ} {v : Verdict} {adds stars : List ℕ} {heads : List ℤ} {r : Answer} {adds′ stars′ : List ℕ} {heads′ : List ℤ} {s : ℤ}
+    (p : Solves n t adds stars heads r adds′ stars′ heads′) (e : said r ≡ gives s) where
+  pub yes-only : length given ≡ n → Judges n t given v → judged v ≡ gives true → given ≡ adds′
+  yes-only long j says = go j p
+    where
+      go : Judges n t given v → Solves n t adds stars heads r adds′ stars′ heads′ → given ≡ adds′
+      go (declines k l refusal) p = not-both true k [] (sym says ∙ refusal)
+      go (says-no clear no-says f) p = absurd (let z = given-once true false (sym says ∙ no-says) in let y : _≡_ {A = ℕ} 0 1 = cc in omega arith)
+      go (says-yes clear yes-says simple) (refused k l refusal x y z) = not-both s k [] (sym e ∙ refusal)
+      go (says-yes clear yes-says simple) (answered z clear′ says′ la ls lh sol) =
+          ext-getD 0 given adds′ (long ∙ sym la) (λ i hi. least-once n (entry t n) simple (sol .additions) i (omega arith))

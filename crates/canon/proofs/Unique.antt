@@ -1,0 +1,121 @@
+-- No second answer and no second memory meets the promise of a call. Assumes nothing.
+use mathlib.Core.Path.{_≡_, refl, sym, _∙_, ap}
+use mathlib.Core.List.{List, [], _∷_}
+use mathlib.Core.Bool.{Bool, true, false}
+use Prim.Native.Nat.{ℕ, _+_, _-_, _≤_, _<_}
+use native.Mathlib.Omega.{arith}
+use lib.IntN.{ℤ, pos}
+use lib.ListN.{length, getD}
+use lib.Seq.{ext-getD}
+use Rattle.theory.specs.Lists.{nums, ints, columns, StarList}
+use Rattle.theory.specs.Table.{entry}
+use Rattle.theory.specs.Canon.{Simplest, Solution}
+use Rattle.theory.proofs.Unique.{solution-once}
+use Rattle.orders.specs.Refusals.{numberOf, valuesOf, Test, Lowest, Clear, Said, gives, refuses}
+use Rattle.orders.specs.declared.Refusal.{Refusal}
+use Rattle.orders.proofs.Refusals.{lowest-once, lowest-clear, refusal-once}
+use Rattle.handed.specs.Conditions.{canon-tests}
+use Rattle.canon.specs.Answers.{said, judged}
+use Rattle.canon.specs.Promises.{Routed, refused, answered, Judges, declines, says-yes, says-no}
+use Rattle.canon.specs.declared.Answer.{Answer}
+use Rattle.canon.specs.declared.Answer.the-variants.{Sum, Refused}
+use Rattle.canon.specs.declared.Verdict.{Verdict}
+use Rattle.canon.specs.declared.Verdict.the-variants as verdict
+
+-- ---- an answer is told by what it says
+pub given-once : {X : Type 0} (x y : X) → _≡_ {A = Said X} (gives x) (gives y) → x ≡ y
+given-once x y e = cc
+
+number-once : {X : Type 0} (j k : ℕ) (us vs : List ℕ) → _≡_ {A = Said X} (refuses j us) (refuses k vs) → j ≡ k
+number-once j k us vs e = cc
+
+values-once : {X : Type 0} (j k : ℕ) (us vs : List ℕ) → _≡_ {A = Said X} (refuses j us) (refuses k vs) → us ≡ vs
+values-once j k us vs e = cc
+
+-- a value is no refusal
+pub not-both {ℓ} : {A : Type ℓ} {X : Type 0} (x : X) (k : ℕ) (vs : List ℕ) → _≡_ {A = Said X} (gives x) (refuses k vs) → A
+not-both x k vs e = absurd (let z : _≡_ {A = ℕ} 0 1 = cc in omega arith)
+
+pub answer-once : (r s : Answer) → said r ≡ said s → r ≡ s
+answer-once (Sum x) (Sum y) e = ap Sum (given-once x y e)
+answer-once (Sum x) (Refused q) e = not-both x (numberOf q) (valuesOf q) e
+answer-once (Refused p) (Sum y) e = not-both y (numberOf p) (valuesOf p) (sym e)
+answer-once (Refused p) (Refused q) e =
+    ap Refused (refusal-once p q (number-once {X = ℤ} (numberOf p) (numberOf q) (valuesOf p) (valuesOf q) e) (values-once {X = ℤ} (numberOf p) (numberOf q) (valuesOf p) (valuesOf q) e))
+
+-- ---- routes
+-- two lists of one length that agree below it are one
+same-list : {X : Type 0} (d : X) {n : ℕ} (l m : List X) → length l ≡ n → length m ≡ n → ((i : ℕ) → i < n → getD l i d ≡ getD m i d) → l ≡ m
+same-list d l m p q e = ext-getD d l m (p ∙ sym q) (λ i hi. e i (omega arith))
+
+-- stars from 1 are told by their columns
+same-stars : {n : ℕ} (s t : List ℕ) → StarList n s → StarList n t → ((i : ℕ) → i < n → columns s i ≡ columns t i) → s ≡ t
+same-stars s t p q e =
+    same-list 0 s t (p .long) (q .long) (λ i hi. omega (arith, e i hi, p .from-one i hi, q .from-one i hi))
+
+-- what two answers to one call have in common: everything
+pub record One (r s : Answer) (adds adds′ stars stars′ : List ℕ) (heads heads′ : List ℤ) : Type 0 where
+  pub answer : r ≡ s
+  pub same-adds : adds ≡ adds′
+  pub same-stars : stars ≡ stars′
+  pub same-heads : heads ≡ heads′
+
+-- two solutions in lists of the wanted length, whatever was lent and whatever was tested
+pub solved-once : {n : ℕ} {a : ℕ → ℕ → ℤ} {r s : Answer} {x y : ℤ} (adds adds′ stars stars′ : List ℕ) (heads heads′ : List ℤ)
+    → said r ≡ gives x → said s ≡ gives y → length adds ≡ n → length adds′ ≡ n → StarList n stars → StarList n stars′ → length heads ≡ n → length heads′ ≡ n
+    → Solution n a (λ i. 0) (nums adds) (columns stars) (ints heads) x → Solution n a (λ i. 0) (nums adds′) (columns stars′) (ints heads′) y
+    → One r s adds adds′ stars stars′ heads heads′
+solved-once {n} {a} {r} {s} adds adds′ stars stars′ heads heads′ p q la la′ ls ls′ lh lh′ u v =
+    let o = solution-once n a u v in
+    record {
+      answer = answer-once r s (p ∙ ap gives (o .one-sum) ∙ sym q);
+      same-adds = same-list 0 adds adds′ la la′ (o .additions);
+      same-stars = same-stars stars stars′ ls ls′ (o .stars);
+      same-heads = same-list (pos 0) heads heads′ lh lh′ (o .heads);
+    }
+
+-- The promise of routes 1, 2 and 3 determines the answer and the lent memory, whatever is handed in: no second answer and no
+-- second memory meets it.
+pub routed-once : {tests : List Test} {n : ℕ} {t : List ℤ} {adds stars : List ℕ} {heads : List ℤ} {r s : Answer} {a b c d : List ℕ} {e f : List ℤ}
+    → Routed tests n t adds stars heads r a c e → Routed tests n t adds stars heads s b d f → One r s a b c d e f
+routed-once {tests} {r = r} {s = s} (refused j p u x y z) (refused k q v x′ y′ z′) =
+    record {
+      answer = answer-once r s (u ∙ ap (λ (i : ℕ). refuses i []) (lowest-once tests j k p q) ∙ sym v);
+      same-adds = x ∙ sym x′;
+      same-stars = y ∙ sym y′;
+      same-heads = z ∙ sym z′;
+    }
+routed-once {tests} (refused j p u x y z) (answered w q v la ls lh sol) = absurd (lowest-clear tests j p q)
+routed-once {tests} (answered w q v la ls lh sol) (refused j p u x y z) = absurd (lowest-clear tests j p q)
+routed-once {a = a} {b} {c} {d} {e} {f} (answered x p u la ls lh sol) (answered y q v la′ ls′ lh′ sol′) =
+    solved-once a b c d e f u v la la′ ls ls′ lh lh′ sol sol′
+
+-- ---- the yes-or-no
+pub verdict-once : (v w : Verdict) → judged v ≡ judged w → v ≡ w
+verdict-once verdict.Yes verdict.Yes e = refl
+verdict-once verdict.Yes verdict.No e = absurd (let z = given-once true false e in let y : _≡_ {A = ℕ} 0 1 = cc in omega arith)
+verdict-once verdict.Yes (verdict.Refused q) e = not-both true (numberOf q) (valuesOf q) e
+verdict-once verdict.No verdict.Yes e = absurd (let z = given-once false true e in let y : _≡_ {A = ℕ} 0 1 = cc in omega arith)
+verdict-once verdict.No verdict.No e = refl
+verdict-once verdict.No (verdict.Refused q) e = not-both false (numberOf q) (valuesOf q) e
+verdict-once (verdict.Refused p) verdict.Yes e = not-both true (numberOf p) (valuesOf p) (sym e)
+verdict-once (verdict.Refused p) verdict.No e = not-both false (numberOf p) (valuesOf p) (sym e)
+verdict-once (verdict.Refused p) (verdict.Refused q) e =
+    ap verdict.Refused
+    (refusal-once p q (number-once {X = Bool} (numberOf p) (numberOf q) (valuesOf p) (valuesOf q) e) (values-once {X = Bool} (numberOf p) (numberOf q) (valuesOf p) (valuesOf q) e))
+
+-- the promise of the yes-or-no determines its answer
+module _ (n : ℕ) (t : List ℤ) (given : List ℕ) where
+  abbrev tests : List Test
+  tests = canon-tests n t given (length given ∷ [])
+
+  pub judges-once : {v w : Verdict} → Judges n t given v → Judges n t given w → v ≡ w
+  judges-once {v} {w} (declines j p u) (declines k q x) = verdict-once v w (u ∙ ap (λ (i : ℕ). refuses i []) (lowest-once tests j k p q) ∙ sym x)
+  judges-once (declines j p u) (says-yes q x s) = absurd (lowest-clear tests j p q)
+  judges-once (declines j p u) (says-no q x s) = absurd (lowest-clear tests j p q)
+  judges-once (says-yes q x s) (declines j p u) = absurd (lowest-clear tests j p q)
+  judges-once {v} {w} (says-yes q x s) (says-yes p y t) = verdict-once v w (x ∙ sym y)
+  judges-once (says-yes q x s) (says-no p y f) = absurd (f s)
+  judges-once (says-no q x f) (declines j p u) = absurd (lowest-clear tests j p q)
+  judges-once (says-no q x f) (says-yes p y s) = absurd (f s)
+  judges-once {v} {w} (says-no q x f) (says-no p y g) = verdict-once v w (x ∙ sym y)

@@ -2,3 +2,4 @@ pub mod Refusing
 pub mod Answering
 pub mod Unique
 pub mod Theorems
+pub mod Useless

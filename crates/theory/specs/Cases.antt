@@ -79,7 +79,7 @@ abbrev x : ℤ
 x = absent
 
 -- 2 - 0 / - 2 0 / 0 0 -
-abbrev pendulum : List ℤ
+abbrev pub pendulum : List ℤ
 pendulum = o 2 ∷ x ∷ o 0 ∷ x ∷ o 2 ∷ o 0 ∷ o 0 ∷ o 0 ∷ x ∷ []
 
 -- the same answer from the table alone and from the canon 4 4 6

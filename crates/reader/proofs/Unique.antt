@@ -53,7 +53,7 @@ pub record Same (a b : Answer) (m n : Lent) : Type 0 where
   pub answer : a ≡ b
   pub memory : m ≡ n
 
-promise-once : (s : List ℕ) (m p q : Lent) (a b : Answer) → ReadPromise s m p a → ReadPromise s m q b → Same a b p q
+pub promise-once : (s : List ℕ) (m p q : Lent) (a b : Answer) → ReadPromise s m p a → ReadPromise s m q b → Same a b p q
 promise-once s m p q a b (refused r e) (refused r′ e′) = record { answer = refuses-once s m a b r r′; memory = e ∙ sym e′ }
 promise-once s m p q a b (refused r e) (read t w l g f e′) = read-unrefused s m a t w l g r
 promise-once s m p q a b (read t w l g f e) (refused r e′) = read-unrefused s m b t w l g r

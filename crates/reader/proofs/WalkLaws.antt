@@ -313,22 +313,25 @@ inner-last s kept n section line at c k u p q three =
     }
 
 -- the walk's first state: nothing said, nothing kept
-pub outer-start : (s : List ℕ) (kept : Kept) → kept .rows ≡ replicate 256 0 → kept .cols ≡ replicate 256 0 → kept .table ≡ replicate 1024 absent
-    → kept .next ≡ 0 → Outer s kept 0 0 1 0
+pub holds-nothing : (kept : Kept) → kept .rows ≡ replicate 256 0 → kept .cols ≡ replicate 256 0 → kept .table ≡ replicate 1024 absent → kept .next ≡ 0
+    → Holds kept start
 unfolding slots
-outer-start s kept r c t n =
+holds-nothing kept r c t n =
+    record {
+      rows-held = r;
+      cols-held = c;
+      rows-stand = labels-none;
+      cols-stand = labels-none;
+      table-held = t;
+      next-held = n;
+      few = omega arith;
+    }
+
+pub outer-start : (s : List ℕ) (kept : Kept) → Holds kept start → Outer s kept 0 0 1 0
+outer-start s kept h =
     record {
       st = start;
-      held =
-          record {
-            rows-held = r;
-            cols-held = c;
-            rows-stand = labels-none;
-            cols-stand = labels-none;
-            table-held = t;
-            next-held = n;
-            few = omega arith;
-          };
+      held = h;
       reached = record { inside = omega arith; line-small = omega arith; line-some = omega arith; whole = λ o t. t };
       section-is = refl;
       none-left = refl;
@@ -363,5 +366,9 @@ walk-ended s kept n section line at w z three u =
       );
     }
 
-pub next-fits : (s : List ℕ) (x : ℕ) → x < length s → Fits w64 (length s) → Fits w64 (x + 1)
+pub next-fits : (s : List ℕ) (x : ℕ) → x < length s → Fits w64 (length s + 1) → Fits w64 (x + 1)
 next-fits s x h f = omega arith
+
+-- the next line's number fits, since there are no more lines than bytes
+pub next-line : {s : List ℕ} {st : State} {line at : ℕ} (e : ℕ) → Reached s st line at → at + e < length s → Fits w64 (length s + 1) → Fits w64 (line + 1)
+next-line e r h f = omega (arith, r .line-small)

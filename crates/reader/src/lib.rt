@@ -4,10 +4,10 @@ ghost use mathlib.Core.List.{List, _++_};
 ghost use Prim.Native.Nat.{ℕ, _+_, _*_, _<_, _≤_};
 ghost use lib.ListN.{length, take, drop};
 ghost use Rattle.orders.specs.Tested.{Tells};
-ghost use Rattle.sheet.specs.Text.{over};
 ghost use Rattle.reader.specs.Parts.{LineEnd, FrontOf, CountOf, FieldOf, ValueOf, PlaceOf, AfterOf, HeadingOf, Holding, LabelKept, Holds, Due, LineKept, WalkTells};
-ghost use Rattle.sheet.specs.Labels.{Labels};
-ghost use Rattle.sheet.specs.Reading.{State};
+ghost use Rattle.theory.specs.Limits.{rows};
+ghost use Rattle.sheet.specs.Labels.{Labels, width};
+ghost use Rattle.sheet.specs.Reading.{State, start};
 ghost use lib.Seq.{paste};
 ghost use Rattle.reader.specs.Promise.{ReadPromise, lent, says};
 use orders::ABSENT;
@@ -15,9 +15,10 @@ use orders::PLACES;
 use orders::ROWS;
 use orders::Refusal;
 use orders::SHEET;
+use sheet::WIDTH;
 
-// The bytes of a label buffer: 8 for each of 32 labels.
-const LABELS: usize = 256;
+// The bytes of a label buffer.
+const LABELS: usize = WIDTH * ROWS;
 
 const FEED: u8 = 10;
 
@@ -61,15 +62,15 @@ enum Place {
 // Labels as the lent buffers hold them, and whether the last line was fit to be one.
 struct Slots {
     fits: bool,
-    labels: [u8; 256],
+    labels: [u8; LABELS],
 }
 
 // What the lines so far said, held by value until the sheet is known to be good; and whether the last line was fit.
 struct Kept {
     fits: bool,
-    rows: [u8; 256],
-    cols: [u8; 256],
-    table: [i16; 1024],
+    rows: [u8; LABELS],
+    cols: [u8; LABELS],
+    table: [i16; PLACES],
     next: usize,
 }
 
@@ -267,7 +268,7 @@ fn count_after(line: &[u8], head: &[u8], low: usize, high: usize) -> Count
 
 // The count of the heading that comes after so many sections.
 fn heading(line: &[u8], section: usize, n: usize) -> Count
-    requires { ⌜ (section < 3) × (n ≤ 32) ⌝ }
+    requires { ⌜ (section < 3) × (n ≤ rows) ⌝ }
     ensures { λ r. ⌜ HeadingOf (now (line .entry)) section n r ⌝ }
 {
     match section {
@@ -278,12 +279,12 @@ fn heading(line: &[u8], section: usize, n: usize) -> Count
 }
 
 // The line's bytes in place k of the labels, filled up with zero bytes that stand there already.
-fn put_label(labels: [u8; 256], k: usize, line: &[u8]) -> [u8; 256]
-    requires { ⌜ 8 * k + length (now line) ≤ 256 ⌝ }
-    ensures { λ r. ⌜ r ≡ paste labels (8 * k) (now (line .entry)) (length (now (line .entry))) ⌝ }
+fn put_label(labels: [u8; LABELS], k: usize, line: &[u8]) -> [u8; LABELS]
+    requires { ⌜ width * k + length (now line) ≤ width * rows ⌝ }
+    ensures { λ r. ⌜ r ≡ paste labels (width * k) (now (line .entry)) (length (now (line .entry))) ⌝ }
 {
     let mut kept = labels;
-    let at = 8 * k;
+    let at = WIDTH * k;
     let mut i = 0;
     while i < line.len() {
         kept[at + i] = line[i];
@@ -293,8 +294,8 @@ fn put_label(labels: [u8; 256], k: usize, line: &[u8]) -> [u8; 256]
 }
 
 // The line as label k, if it has the form of one and is unlike those before it.
-fn keep_label(labels: [u8; 256], k: usize, line: &[u8]) -> Slots
-    requires { ⌜ k < 32 ⌝ }
+fn keep_label(labels: [u8; LABELS], k: usize, line: &[u8]) -> Slots
+    requires { ⌜ k < rows ⌝ }
     ensures { λ r. ⌜ ((ls : List (List ℕ)) → Holding labels ls → length ls ≡ k → Labels ls → LabelKept ls (now (line .entry)) r) ⌝ }
 {
     if sheet::label_stands(line) {
@@ -319,7 +320,7 @@ fn keep_label(labels: [u8; 256], k: usize, line: &[u8]) -> Slots
 
 // The line as an order, if it says one at a place that no line before has reached.
 fn keep_order(kept: Kept, n: usize, line: &[u8]) -> Kept
-    requires { ⌜ n ≤ 32 ⌝ }
+    requires { ⌜ n ≤ rows ⌝ }
     ensures { λ r. ⌜ ((st : State) (m : ℕ) → Holds kept st → Due 2 n 0 m st → LineKept st (now (line .entry)) r) ⌝ }
 {
     let rows = kept.rows;
@@ -360,7 +361,7 @@ fn keep_order(kept: Kept, n: usize, line: &[u8]) -> Kept
 
 // The line as line k of a section, from 0 both.
 fn keep(kept: Kept, section: usize, n: usize, k: usize, line: &[u8]) -> Kept
-    requires { ⌜ (section < 3) × (n ≤ 32) × (section < 2 → k < 32) ⌝ }
+    requires { ⌜ (section < 3) × (n ≤ rows) × (section < 2 → k < rows) ⌝ }
     ensures { λ r. ⌜ ((st : State) (m : ℕ) → Holds kept st → Due section n k m st → LineKept st (now (line .entry)) r) ⌝ }
 {
     let rows = kept.rows;
@@ -394,17 +395,24 @@ fn keep(kept: Kept, section: usize, n: usize, k: usize, line: &[u8]) -> Kept
     }
 }
 
-// The sections and their lines, one after the other, left at the first wrong line.
+// What is kept before the first line.
+fn nothing_kept() -> Kept
+    ensures { λ r. ⌜ Holds r start ⌝ }
+{
+    Kept {
+        fits: true,
+        rows: [0u8; LABELS],
+        cols: [0u8; LABELS],
+        table: [ABSENT; PLACES],
+        next: 0,
+    }
+}
+
+// The sections and their lines, one after the other, left by label at the first wrong line.
 fn walk(sheet: &[u8]) -> Walked
     ensures { λ r. ⌜ WalkTells (now (sheet .entry)) r ⌝ }
 {
-    let mut kept = Kept {
-        fits: true,
-        rows: [0u8; 256],
-        cols: [0u8; 256],
-        table: [ABSENT; 1024],
-        next: 0,
-    };
+    let mut kept = nothing_kept();
     let mut n: usize = 0;
     let mut section: usize = 0;
     let mut line: usize = 1;
@@ -416,8 +424,7 @@ fn walk(sheet: &[u8]) -> Walked
             wrong = line;
             break 'sheet;
         }
-        let count = heading(&sheet[at..end], section, n);
-        let Count::Of(c) = count else {
+        let Count::Of(c) = heading(&sheet[at..end], section, n) else {
             wrong = line;
             break 'sheet;
         };
@@ -453,8 +460,8 @@ fn walk(sheet: &[u8]) -> Walked
     }
 }
 
-fn copy_bytes(from: [u8; 256], count: usize, to: &mut [u8])
-    requires { ⌜ (count ≤ 256) × (count ≤ length (now to)) ⌝ }
+fn copy_bytes(from: [u8; LABELS], count: usize, to: &mut [u8])
+    requires { ⌜ (count ≤ width * rows) × (count ≤ length (now to)) ⌝ }
     ensures { λ _. ⌜ now (to .exit) ≡ take count from ++ drop count (now (to .entry)) ⌝ }
 {
     let mut i = 0;
@@ -464,8 +471,8 @@ fn copy_bytes(from: [u8; 256], count: usize, to: &mut [u8])
     }
 }
 
-fn copy_entries(from: [i16; 1024], count: usize, to: &mut [i16])
-    requires { ⌜ (count ≤ 1024) × (count ≤ length (now to)) ⌝ }
+fn copy_entries(from: [i16; PLACES], count: usize, to: &mut [i16])
+    requires { ⌜ (count ≤ rows * rows) × (count ≤ length (now to)) ⌝ }
     ensures { λ _. ⌜ now (to .exit) ≡ take count from ++ drop count (now (to .entry)) ⌝ }
 {
     let mut i = 0;
@@ -510,7 +517,7 @@ pub fn read_sheet(sheet: &[u8], table: &mut [i16], rows: &mut [u8], cols: &mut [
     let row_labels = kept.rows;
     let col_labels = kept.cols;
     copy_entries(entries, n * n, table);
-    copy_bytes(row_labels, 8 * n, rows);
-    copy_bytes(col_labels, 8 * n, cols);
+    copy_bytes(row_labels, WIDTH * n, rows);
+    copy_bytes(col_labels, WIDTH * n, cols);
     Read::Rows(n)
 }

@@ -76,7 +76,7 @@ pub record Same (a b : Answer) (m n : List ℕ) : Type 0 where
   pub answer : a ≡ b
   pub memory : m ≡ n
 
-promise-once : (h : Handed) (o p q : List ℕ) (a b : Answer) → WritePromise h o p a → WritePromise h o q b → Same a b p q
+pub promise-once : (h : Handed) (o p q : List ℕ) (a b : Answer) → WritePromise h o p a → WritePromise h o q b → Same a b p q
 promise-once h o p q a b (refused r e) (refused r′ e′) = record { answer = refuses-once h o a b r r′; memory = e ∙ sym e′ }
 promise-once h o p q a b (refused r e) (wrote s w i t l f g e′) = wrote-unrefused h o a t s w i l f r
 promise-once h o p q a b (wrote s w i t l f g e) (refused r e′) = wrote-unrefused h o b t s w i l f r

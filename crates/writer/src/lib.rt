@@ -4,7 +4,8 @@ ghost use Prim.Native.Nat.{ℕ, _+_, _*_, _/_, _%_, _<_, _≤_};
 ghost use lib.IntN.{natAbs};
 ghost use lib.ListN.{length, getD, take, drop};
 ghost use Rattle.orders.specs.Tested.{Tells};
-ghost use Rattle.theory.specs.Limits.{order};
+ghost use Rattle.theory.specs.Limits.{order, rows as limit};
+ghost use Rattle.sheet.specs.Labels.{width};
 ghost use Rattle.theory.specs.Table.{Order};
 ghost use Rattle.sheet.specs.Text.{text, signed, ended, blank};
 ghost use Rattle.sheet.specs.Sheet.{presentCount, labelLines, orderLine, orderLines, orderSection};
@@ -13,6 +14,7 @@ ghost use Rattle.writer.specs.Promise.{WritePromise, handed, says};
 use orders::ABSENT;
 use orders::ROWS;
 use orders::Refusal;
+use sheet::WIDTH;
 
 const FEED: u8 = 10;
 
@@ -125,13 +127,13 @@ fn slot_stands(slot: &[u8]) -> bool
 
 // Does a buffer hold n labels, each of its form and unlike the others?
 fn labels_stand(n: usize, labels: &[u8]) -> bool
-    requires { ⌜ 8 * n ≤ length (now labels) ⌝ }
+    requires { ⌜ width * n ≤ length (now labels) ⌝ }
     ensures { λ r. ⌜ Tells r (BufferStands n (now (labels .entry))) ⌝ }
 {
     let mut k = 0;
     while k < n {
-        let a = 8 * k;
-        let b = a + 8;
+        let a = WIDTH * k;
+        let b = a + WIDTH;
         if !slot_stands(&labels[a..b]) {
             return false;
         }
@@ -145,14 +147,14 @@ fn labels_stand(n: usize, labels: &[u8]) -> bool
 
 // The bytes of the label lines.
 fn labels_length(n: usize, labels: &[u8]) -> usize
-    requires { ⌜ (n ≤ 32) × (8 * n ≤ length (now labels)) ⌝ }
+    requires { ⌜ (n ≤ limit) × (width * n ≤ length (now labels)) ⌝ }
     ensures { λ r. ⌜ (r ≡ length (labelLines (labelsOf n (now (labels .entry))))) × (r ≤ 9 * n) ⌝ }
 {
     let mut sum: usize = 0;
     let mut k = 0;
     while k < n {
-        let a = 8 * k;
-        let b = a + 8;
+        let a = WIDTH * k;
+        let b = a + WIDTH;
         sum += label_length(&labels[a..b]) + 1;
         k += 1;
     }
@@ -172,14 +174,14 @@ fn put_label(slot: &[u8], out: &mut [u8]) -> usize
 
 // The label lines in the room.
 fn put_labels(n: usize, labels: &[u8], out: &mut [u8]) -> usize
-    requires { ⌜ (8 * n ≤ length (now labels)) × (length (labelLines (labelsOf n (now labels))) ≤ length (now out)) ⌝ }
+    requires { ⌜ (width * n ≤ length (now labels)) × (length (labelLines (labelsOf n (now labels))) ≤ length (now out)) ⌝ }
     ensures { λ r. ⌜ Puts (labelLines (labelsOf n (now (labels .entry)))) (now (out .entry)) (now (out .exit)) r ⌝ }
 {
     let mut at: usize = 0;
     let mut k = 0;
     while k < n {
-        let a = 8 * k;
-        let b = a + 8;
+        let a = WIDTH * k;
+        let b = a + WIDTH;
         at += put_label(&labels[a..b], &mut out[at..]);
         k += 1;
     }
@@ -261,7 +263,7 @@ fn put_value_line(v: i16, out: &mut [u8]) -> usize
 
 // The column and the order of a line.
 fn put_order_end(n: usize, p: usize, v: i16, out: &mut [u8]) -> usize
-    requires { ⌜ (1 ≤ n) × (n ≤ 32) × (Order order v) × (length ((text (p % n + 1) ++ blank ∷ []) ++ ended (signed v)) ≤ length (now out)) ⌝ }
+    requires { ⌜ (1 ≤ n) × (n ≤ limit) × (Order order v) × (length ((text (p % n + 1) ++ blank ∷ []) ++ ended (signed v)) ≤ length (now out)) ⌝ }
     ensures { λ r. ⌜ Puts ((text (p % n + 1) ++ blank ∷ []) ++ ended (signed v)) (now (out .entry)) (now (out .exit)) r ⌝ }
 {
     let a = put_count(p % n + 1, BLANK, out);
@@ -310,7 +312,7 @@ fn put_orders(n: usize, table: &[i16], out: &mut [u8]) -> usize
 
 // A section of labels in the room.
 fn put_label_section(head: &[u8], n: usize, labels: &[u8], out: &mut [u8]) -> usize
-    requires { ⌜ (8 * n ≤ length (now labels)) × (length (ended (now head ++ text n) ++ labelLines (labelsOf n (now labels))) ≤ length (now out)) ⌝ }
+    requires { ⌜ (width * n ≤ length (now labels)) × (length (ended (now head ++ text n) ++ labelLines (labelsOf n (now labels))) ≤ length (now out)) ⌝ }
     ensures { λ r. ⌜ Puts (ended (now (head .entry) ++ text n) ++ labelLines (labelsOf n (now (labels .entry)))) (now (out .entry)) (now (out .exit)) r ⌝ }
 {
     let a = put_heading(head, n, out);
@@ -330,7 +332,7 @@ fn put_order_section(n: usize, table: &[i16], out: &mut [u8]) -> usize
 }
 
 fn sheet_length(n: usize, table: &[i16], rows: &[u8], cols: &[u8]) -> usize
-    requires { ⌜ (Tested n (now table)) × (8 * n ≤ length (now rows)) × (8 * n ≤ length (now cols)) ⌝ }
+    requires { ⌜ (Tested n (now table)) × (width * n ≤ length (now rows)) × (width * n ≤ length (now cols)) ⌝ }
     ensures { λ r. ⌜ r ≡ length (sheetText n (now (table .entry)) (now (rows .entry)) (now (cols .entry))) ⌝ }
 {
     let head = digits(n) + 6;
@@ -342,7 +344,7 @@ fn sheet_length(n: usize, table: &[i16], rows: &[u8], cols: &[u8]) -> usize
 
 // The sections from `cols` on in the room.
 fn put_rest(n: usize, table: &[i16], cols: &[u8], out: &mut [u8]) -> usize
-    requires { ⌜ (Tested n (now table)) × (8 * n ≤ length (now cols)) × (length (restText n (now table) (now cols)) ≤ length (now out)) ⌝ }
+    requires { ⌜ (Tested n (now table)) × (width * n ≤ length (now cols)) × (length (restText n (now table) (now cols)) ≤ length (now out)) ⌝ }
     ensures { λ r. ⌜ Puts (restText n (now (table .entry)) (now (cols .entry))) (now (out .entry)) (now (out .exit)) r ⌝ }
 {
     let a = put_label_section(b"cols ", n, cols, out);
@@ -352,7 +354,7 @@ fn put_rest(n: usize, table: &[i16], cols: &[u8], out: &mut [u8]) -> usize
 
 // The sheet in the room: each section in the room that the sections before it left free.
 fn put_sheet(n: usize, table: &[i16], rows: &[u8], cols: &[u8], out: &mut [u8]) -> usize
-    requires { ⌜ (Tested n (now table)) × (8 * n ≤ length (now rows)) × (8 * n ≤ length (now cols)) × (length (sheetText n (now table) (now rows) (now cols)) ≤ length (now out)) ⌝ }
+    requires { ⌜ (Tested n (now table)) × (width * n ≤ length (now rows)) × (width * n ≤ length (now cols)) × (length (sheetText n (now table) (now rows) (now cols)) ≤ length (now out)) ⌝ }
     ensures { λ r. ⌜ Puts (sheetText n (now (table .entry)) (now (rows .entry)) (now (cols .entry))) (now (out .entry)) (now (out .exit)) r ⌝ }
 {
     let a = put_label_section(b"rows ", n, rows, out);
@@ -375,10 +377,10 @@ pub fn write_sheet(n: usize, table: &[i16], rows: &[u8], cols: &[u8], out: &mut 
     if table.len() != n * n {
         return Written::Refused(Refusal::Length);
     }
-    if rows.len() != 8 * n {
+    if rows.len() != WIDTH * n {
         return Written::Refused(Refusal::Length);
     }
-    if cols.len() != 8 * n {
+    if cols.len() != WIDTH * n {
         return Written::Refused(Refusal::Length);
     }
     if !orders::entries_stand(table) {

@@ -1,7 +1,9 @@
 -- The walk over sections and lines. Assumes nothing.
 use borrow.Author.Needs.{needs}
 use native.Mathlib.Omega.{arith}
-use Rattle.reader.proofs.WalkLaws.{Outer, Inner, outer-lack, outer-halt, outer-pass, outer-final, inner-due, inner-small, inner-lack, inner-halt, inner-pass, inner-last, outer-start, walk-stopped, walk-ended, feed-inside, next-fits}
+use Rattle.reader.proofs.WalkLaws.{Outer, Inner, outer-lack, outer-halt, outer-pass, outer-final, inner-due, inner-small, inner-lack, inner-halt, inner-pass, inner-last, outer-start, walk-stopped, walk-ended, feed-inside, next-fits, next-line}
+use mir.Syntax.{w64}
+use mir.Val.{Fits}
 use Rattle.reader.proofs.LineLaws.{is-no-count}
 use Rattle.reader.specs.Parts.{HeadingOf}
 use borrow.Author.Tests.{not-true, not-false}
@@ -14,19 +16,22 @@ use Rattle.reader.proofs.walk.Statement.{statement}
 use Rattle.reader.proofs.walk.Tie as tie
 
 abbrev Inv-loop : tie.InvT-loop
-Inv-loop sheet kept₀ n section line₀ at₀ wrong₀ end c k₀ kept line at wrong k = (k ≤ c) × (section < 3) × (wrong ≡ 0) × Inner sheet kept n section line at c k
+Inv-loop sheet kept₀ n section line₀ at₀ wrong₀ end c k₀ kept line at wrong k = (k ≤ c) × (section < 3) × (wrong ≡ 0) × Inner sheet kept n section line at c k × Fits w64 (length sheet + 1)
 
 abbrev μ-loop : tie.MeasureT-loop
 μ-loop sheet kept₀ n section line₀ at₀ wrong₀ end c k₀ kept line at wrong k = c - k
 
 abbrev Inv-sheet : tie.InvT-sheet
-Inv-sheet sheet kept₀ n₀ section₀ line₀ at₀ wrong₀ kept n section line at wrong = (section ≤ 3) × (wrong ≡ 0) × (section ≡ 0 → n ≡ 0) × Outer sheet kept n section line at
+Inv-sheet sheet kept₀ n₀ section₀ line₀ at₀ wrong₀ kept n section line at wrong = (section ≤ 3) × (wrong ≡ 0) × (section ≡ 0 → n ≡ 0) × Outer sheet kept n section line at × Fits w64 (length sheet + 1)
 
 abbrev μ-sheet : tie.MeasureT-sheet
 μ-sheet sheet kept₀ n₀ section₀ line₀ at₀ wrong₀ kept n section line at wrong = 3 - section
 
+nothing-kept-requires : tie.Need-nothing-kept-requires Inv-loop μ-loop Inv-sheet μ-sheet
+nothing-kept-requires c κs = search needs
+
 sheet-holds : tie.Need-sheet-holds Inv-loop μ-loop Inv-sheet μ-sheet
-sheet-holds c = (omega arith, refl, λ z. refl, outer-start (c .before .args .sheet .now) _ refl refl refl refl)
+sheet-holds c = (omega arith, refl, λ z. refl, outer-start (c .before .before .args .sheet .now) (c .nothing-kept .result) (c .nothing-kept .ensures), search needs)
 
 sub-line-end : tie.Need-sub-line-end Inv-loop μ-loop Inv-sheet μ-sheet
 sub-line-end c = c .before .sheet .inv .3 .reached .inside
@@ -41,42 +46,43 @@ line-end-requires : tie.Need-line-end-requires Inv-loop μ-loop Inv-sheet μ-she
 line-end-requires c κs = search needs
 
 add-end : tie.Need-add-end Inv-loop μ-loop Inv-sheet μ-sheet
-add-end c = omega (arith, (rw (rest (c .before .before .before .before .before .args .sheet .now) (c .before .before .before .sheet .at)) at (c .line-end .ensures)) .inside, length-drop (c .before .before .before .sheet .at) (c .before .before .before .before .before .args .sheet .now), c .before .before .before .sheet .inv .3 .reached .inside)
+add-end c = omega (arith, (rw (rest (c .before .before .before .before .before .before .args .sheet .now) (c .before .before .before .sheet .at)) at (c .line-end .ensures)) .inside, length-drop (c .before .before .before .sheet .at) (c .before .before .before .before .before .before .args .sheet .now), c .before .before .before .sheet .inv .3 .reached .inside)
 
 sub-heading : tie.Need-sub-heading Inv-loop μ-loop Inv-sheet μ-sheet
-sub-heading c = omega (arith, (rw (rest (c .before .before .before .before .before .before .args .sheet .now) (c .before .before .before .before .sheet .at)) at (c .before .line-end .ensures)) .inside, length-drop (c .before .before .before .before .sheet .at) (c .before .before .before .before .before .before .args .sheet .now), c .before .before .before .before .sheet .inv .3 .reached .inside)
+sub-heading c = omega (arith, (rw (rest (c .before .before .before .before .before .before .before .args .sheet .now) (c .before .before .before .before .sheet .at)) at (c .before .line-end .ensures)) .inside, length-drop (c .before .before .before .before .sheet .at) (c .before .before .before .before .before .before .before .args .sheet .now), c .before .before .before .before .sheet .inv .3 .reached .inside)
 
 part-heading-start : tie.Need-part-heading-start Inv-loop μ-loop Inv-sheet μ-sheet
-part-heading-start c = omega (arith, (rw (rest (c .before .before .before .before .before .before .args .sheet .now) (c .before .before .before .before .sheet .at)) at (c .before .line-end .ensures)) .inside, length-drop (c .before .before .before .before .sheet .at) (c .before .before .before .before .before .before .args .sheet .now), c .before .before .before .before .sheet .inv .3 .reached .inside)
+part-heading-start c = omega (arith, (rw (rest (c .before .before .before .before .before .before .before .args .sheet .now) (c .before .before .before .before .sheet .at)) at (c .before .line-end .ensures)) .inside, length-drop (c .before .before .before .before .sheet .at) (c .before .before .before .before .before .before .before .args .sheet .now), c .before .before .before .before .sheet .inv .3 .reached .inside)
 
 part-heading-end : tie.Need-part-heading-end Inv-loop μ-loop Inv-sheet μ-sheet
-part-heading-end c = omega (arith, (rw (rest (c .before .before .before .before .before .before .args .sheet .now) (c .before .before .before .before .sheet .at)) at (c .before .line-end .ensures)) .inside, length-drop (c .before .before .before .before .sheet .at) (c .before .before .before .before .before .before .args .sheet .now), c .before .before .before .before .sheet .inv .3 .reached .inside)
+part-heading-end c = omega (arith, (rw (rest (c .before .before .before .before .before .before .before .args .sheet .now) (c .before .before .before .before .sheet .at)) at (c .before .line-end .ensures)) .inside, length-drop (c .before .before .before .before .sheet .at) (c .before .before .before .before .before .before .before .args .sheet .now), c .before .before .before .before .sheet .inv .3 .reached .inside)
 
 heading-requires : tie.Need-heading-requires Inv-loop μ-loop Inv-sheet μ-sheet
 heading-requires c κs = (omega arith, c .before .before .before .before .before .sheet .inv .3 .few)
 
-enum-known-count : tie.Need-enum-known-count Inv-loop μ-loop Inv-sheet μ-sheet
-enum-known-count c = search needs
+enum-known-c : tie.Need-enum-known-c Inv-loop μ-loop Inv-sheet μ-sheet
+enum-known-c c = search needs
 
 enum-told : tie.Need-enum-told Inv-loop μ-loop Inv-sheet μ-sheet
 enum-told c = search needs
 
 add-at : tie.Need-add-at Inv-loop μ-loop Inv-sheet μ-sheet
-add-at c = omega (arith, (rw (rest (c .before .before .before .before .before .before .before .before .before .before .before .before .args .sheet .now) (c .before .before .before .before .before .before .before .before .before .before .sheet .at)) at (c .before .before .before .before .before .before .before .line-end .ensures)) .inside, length-drop (c .before .before .before .before .before .before .before .before .before .before .sheet .at) (c .before .before .before .before .before .before .before .before .before .before .before .before .args .sheet .now), c .before .before .before .before .before .before .before .before .before .before .sheet .inv .3 .reached .inside, c .before .before .before .before .before .before .if1 .left)
+add-at c = omega (arith, (rw (rest (c .before .before .before .before .before .before .before .before .before .before .before .before .before .args .sheet .now) (c .before .before .before .before .before .before .before .before .before .before .sheet .at)) at (c .before .before .before .before .before .before .before .line-end .ensures)) .inside, length-drop (c .before .before .before .before .before .before .before .before .before .before .sheet .at) (c .before .before .before .before .before .before .before .before .before .before .before .before .before .args .sheet .now), c .before .before .before .before .before .before .before .before .before .before .sheet .inv .3 .reached .inside, c .before .before .before .before .before .before .if1 .left)
 
 add-line : tie.Need-add-line Inv-loop μ-loop Inv-sheet μ-sheet
-add-line c = omega (arith, c .before .before .before .before .before .before .before .before .before .before .sheet .inv .3 .reached .line-small, c .before .before .before .before .before .before .before .before .before .before .sheet .inv .3 .reached .inside)
+add-line c = next-line _ (c .before .before .before .before .before .before .before .before .before .before .sheet .inv .3 .reached) (feed-inside (c .before .before .before .before .before .before .before .before .before .before .before .before .before .args .sheet .now) (c .before .before .before .before .before .before .before .before .before .before .sheet .at) (c .before .before .before .before .before .before .before .line-end .result) (c .before .before .before .before .before .before .before .before .before .before .sheet .inv .3 .reached .inside) (rw (rest (c .before .before .before .before .before .before .before .before .before .before .before .before .before .args .sheet .now) (c .before .before .before .before .before .before .before .before .before .before .sheet .at)) at (c .before .before .before .before .before .before .before .line-end .ensures)) (c .before .before .before .before .before .before .if1 .left)) (c .before .before .before .before .before .before .before .before .before .before .sheet .inv .4)
 
 loop-holds : tie.Need-loop-holds Inv-loop μ-loop Inv-sheet μ-sheet
-loop-holds c = let u = c .before .before .before .before .before .before .before .before .before .before .sheet in (
+loop-holds c = let u = (c .before .before .before .before .before .before .before .before .before .before .sheet) in (
   omega arith,
   omega arith,
   u .inv .1,
-  outer-pass (c .before .before .before .before .before .before .before .before .before .before .before .before .args .sheet .now) (u .kept) (u .n) (u .section) (u .line) (u .at) (u .inv .3) (c .before .before .before .before .before .before .before .line-end .result) (c .before .before .count .given .0 .0) (c .if2 .n)
-      (rw (rest (c .before .before .before .before .before .before .before .before .before .before .before .before .args .sheet .now) (c .before .before .before .before .before .before .before .before .before .before .sheet .at)) at (c .before .before .before .before .before .before .before .line-end .ensures)) (c .before .before .before .before .before .before .if1 .left)
-      (subst (λ x. HeadingOf (take (u .at + c .before .before .before .before .before .before .before .line-end .result - u .at) (drop (u .at) (c .before .before .before .before .before .before .before .before .before .before .before .before .args .sheet .now))) (u .section) (u .n) x) (c .before .before .count .given .1) (c .before .before .before .before .heading .ensures))
+  outer-pass (c .before .before .before .before .before .before .before .before .before .before .before .before .before .args .sheet .now) (u .kept) (u .n) (u .section) (u .line) (u .at) (u .inv .3) (c .before .before .before .before .before .before .before .line-end .result) (c .before .before .c .given .0 .0) (c .if2 .n)
+      (rw (rest (c .before .before .before .before .before .before .before .before .before .before .before .before .before .args .sheet .now) (c .before .before .before .before .before .before .before .before .before .before .sheet .at)) at (c .before .before .before .before .before .before .before .line-end .ensures)) (c .before .before .before .before .before .before .if1 .left)
+      (subst (λ x. HeadingOf (take (u .at + c .before .before .before .before .before .before .before .line-end .result - u .at) (drop (u .at) (c .before .before .before .before .before .before .before .before .before .before .before .before .before .args .sheet .now))) (u .section) (u .n) x) (c .before .before .c .given .1) (c .before .before .before .before .heading .ensures))
       (λ z. elim (c .if2 .came) [ inl w ↦ w .1 | inr w ↦ absurd (w .0 .left z) ])
       (λ z. elim (c .if2 .came) [ inl w ↦ absurd (z (w .0 .taken)) | inr w ↦ w .1 ]) (omega arith) (u .inv .2),
+  u .inv .4,
 )
 
 sub-line-end-2 : tie.Need-sub-line-end-2 Inv-loop μ-loop Inv-sheet μ-sheet
@@ -92,25 +98,25 @@ line-end-requires-2 : tie.Need-line-end-requires-2 Inv-loop μ-loop Inv-sheet μ
 line-end-requires-2 c κs = search needs
 
 add-end-2 : tie.Need-add-end-2 Inv-loop μ-loop Inv-sheet μ-sheet
-add-end-2 c = omega (arith, (rw (rest (c .before .before .before .before .before .before .before .before .before .before .before .before .before .before .before .before .args .sheet .now) (c .before .before .before .loop .at)) at (c .line-end2 .ensures)) .inside, length-drop (c .before .before .before .loop .at) (c .before .before .before .before .before .before .before .before .before .before .before .before .before .before .before .before .args .sheet .now), c .before .before .before .loop .inv .3 .reached .inside)
+add-end-2 c = omega (arith, (rw (rest (c .before .before .before .before .before .before .before .before .before .before .before .before .before .before .before .before .before .args .sheet .now) (c .before .before .before .loop .at)) at (c .line-end2 .ensures)) .inside, length-drop (c .before .before .before .loop .at) (c .before .before .before .before .before .before .before .before .before .before .before .before .before .before .before .before .before .args .sheet .now), c .before .before .before .loop .inv .3 .reached .inside)
 
 sub-keep : tie.Need-sub-keep Inv-loop μ-loop Inv-sheet μ-sheet
-sub-keep c = omega (arith, (rw (rest (c .before .before .before .before .before .before .before .before .before .before .before .before .before .before .before .before .before .args .sheet .now) (c .before .before .before .before .loop .at)) at (c .before .line-end2 .ensures)) .inside, length-drop (c .before .before .before .before .loop .at) (c .before .before .before .before .before .before .before .before .before .before .before .before .before .before .before .before .before .args .sheet .now), c .before .before .before .before .loop .inv .3 .reached .inside)
+sub-keep c = omega (arith, (rw (rest (c .before .before .before .before .before .before .before .before .before .before .before .before .before .before .before .before .before .before .args .sheet .now) (c .before .before .before .before .loop .at)) at (c .before .line-end2 .ensures)) .inside, length-drop (c .before .before .before .before .loop .at) (c .before .before .before .before .before .before .before .before .before .before .before .before .before .before .before .before .before .before .args .sheet .now), c .before .before .before .before .loop .inv .3 .reached .inside)
 
 part-keep-start : tie.Need-part-keep-start Inv-loop μ-loop Inv-sheet μ-sheet
-part-keep-start c = omega (arith, (rw (rest (c .before .before .before .before .before .before .before .before .before .before .before .before .before .before .before .before .before .args .sheet .now) (c .before .before .before .before .loop .at)) at (c .before .line-end2 .ensures)) .inside, length-drop (c .before .before .before .before .loop .at) (c .before .before .before .before .before .before .before .before .before .before .before .before .before .before .before .before .before .args .sheet .now), c .before .before .before .before .loop .inv .3 .reached .inside)
+part-keep-start c = omega (arith, (rw (rest (c .before .before .before .before .before .before .before .before .before .before .before .before .before .before .before .before .before .before .args .sheet .now) (c .before .before .before .before .loop .at)) at (c .before .line-end2 .ensures)) .inside, length-drop (c .before .before .before .before .loop .at) (c .before .before .before .before .before .before .before .before .before .before .before .before .before .before .before .before .before .before .args .sheet .now), c .before .before .before .before .loop .inv .3 .reached .inside)
 
 part-keep-end : tie.Need-part-keep-end Inv-loop μ-loop Inv-sheet μ-sheet
-part-keep-end c = omega (arith, (rw (rest (c .before .before .before .before .before .before .before .before .before .before .before .before .before .before .before .before .before .args .sheet .now) (c .before .before .before .before .loop .at)) at (c .before .line-end2 .ensures)) .inside, length-drop (c .before .before .before .before .loop .at) (c .before .before .before .before .before .before .before .before .before .before .before .before .before .before .before .before .before .args .sheet .now), c .before .before .before .before .loop .inv .3 .reached .inside)
+part-keep-end c = omega (arith, (rw (rest (c .before .before .before .before .before .before .before .before .before .before .before .before .before .before .before .before .before .before .args .sheet .now) (c .before .before .before .before .loop .at)) at (c .before .line-end2 .ensures)) .inside, length-drop (c .before .before .before .before .loop .at) (c .before .before .before .before .before .before .before .before .before .before .before .before .before .before .before .before .before .before .args .sheet .now), c .before .before .before .before .loop .inv .3 .reached .inside)
 
 keep-requires : tie.Need-keep-requires Inv-loop μ-loop Inv-sheet μ-sheet
-keep-requires c κs = (omega arith, c .before .before .before .before .before .loop .inv .3 .few, inner-small (c .before .before .before .before .before .before .before .before .before .before .before .before .before .before .before .before .before .before .args .sheet .now) _ _ _ _ _ _ _ (c .before .before .before .before .before .loop .inv .3) (omega arith))
+keep-requires c κs = (omega arith, c .before .before .before .before .before .loop .inv .3 .few, inner-small (c .before .before .before .before .before .before .before .before .before .before .before .before .before .before .before .before .before .before .before .args .sheet .now) _ _ _ _ _ _ _ (c .before .before .before .before .before .loop .inv .3) (omega arith))
 
 add-at-2 : tie.Need-add-at-2 Inv-loop μ-loop Inv-sheet μ-sheet
-add-at-2 c = next-fits (c .before .before .before .before .before .before .before .before .before .before .before .before .before .before .before .before .before .before .before .before .before .args .sheet .now) (c .before .before .before .before .before .before .before .before .loop .at + c .before .before .before .before .before .line-end2 .result) (feed-inside (c .before .before .before .before .before .before .before .before .before .before .before .before .before .before .before .before .before .before .before .before .before .args .sheet .now) (c .before .before .before .before .before .before .before .before .loop .at) (c .before .before .before .before .before .line-end2 .result) (c .before .before .before .before .before .before .before .before .loop .inv .3 .reached .inside) (rw (rest (c .before .before .before .before .before .before .before .before .before .before .before .before .before .before .before .before .before .before .before .before .before .args .sheet .now) (c .before .before .before .before .before .before .before .before .loop .at)) at (c .before .before .before .before .before .line-end2 .ensures)) (c .before .before .before .before .if3 .left)) (search needs)
+add-at-2 c = next-fits (c .before .before .before .before .before .before .before .before .before .before .before .before .before .before .before .before .before .before .before .before .before .before .args .sheet .now) (c .before .before .before .before .before .before .before .before .loop .at + c .before .before .before .before .before .line-end2 .result) (feed-inside (c .before .before .before .before .before .before .before .before .before .before .before .before .before .before .before .before .before .before .before .before .before .before .args .sheet .now) (c .before .before .before .before .before .before .before .before .loop .at) (c .before .before .before .before .before .line-end2 .result) (c .before .before .before .before .before .before .before .before .loop .inv .3 .reached .inside) (rw (rest (c .before .before .before .before .before .before .before .before .before .before .before .before .before .before .before .before .before .before .before .before .before .before .args .sheet .now) (c .before .before .before .before .before .before .before .before .loop .at)) at (c .before .before .before .before .before .line-end2 .ensures)) (c .before .before .before .before .if3 .left)) (c .before .before .before .before .before .before .before .before .loop .inv .4)
 
 add-line-2 : tie.Need-add-line-2 Inv-loop μ-loop Inv-sheet μ-sheet
-add-line-2 c = omega (arith, c .before .before .before .before .before .before .before .before .loop .inv .3 .reached .line-small, c .before .before .before .before .before .before .before .before .loop .inv .3 .reached .inside)
+add-line-2 c = next-line _ (c .before .before .before .before .before .before .before .before .loop .inv .3 .reached) (feed-inside (c .before .before .before .before .before .before .before .before .before .before .before .before .before .before .before .before .before .before .before .before .before .before .args .sheet .now) (c .before .before .before .before .before .before .before .before .loop .at) (c .before .before .before .before .before .line-end2 .result) (c .before .before .before .before .before .before .before .before .loop .inv .3 .reached .inside) (rw (rest (c .before .before .before .before .before .before .before .before .before .before .before .before .before .before .before .before .before .before .before .before .before .before .args .sheet .now) (c .before .before .before .before .before .before .before .before .loop .at)) at (c .before .before .before .before .before .line-end2 .ensures)) (c .before .before .before .before .if3 .left)) (c .before .before .before .before .before .before .before .before .loop .inv .4)
 
 add-k : tie.Need-add-k Inv-loop μ-loop Inv-sheet μ-sheet
 add-k c = search needs
@@ -119,15 +125,16 @@ loop-less : tie.Need-loop-less Inv-loop μ-loop Inv-sheet μ-sheet
 loop-less c = search needs
 
 loop-again : tie.Need-loop-again Inv-loop μ-loop Inv-sheet μ-sheet
-loop-again c = let u = c .before .before .before .before .before .before .before .before .loop in
-    let h : u .k < c .before .before .before .before .before .before .before .before .before .before .before .count .given .0 .0 = omega arith in (
+loop-again c = let u = (c .before .before .before .before .before .before .before .before .loop) in
+    let h : u .k < c .before .before .before .before .before .before .before .before .before .before .before .c .given .0 .0 = omega arith in (
       omega arith,
       omega arith,
       u .inv .2,
-      inner-pass (c .before .before .before .before .before .before .before .before .before .before .before .before .before .before .before .before .before .before .before .before .before .args .sheet .now) (u .kept) (c .before .before .before .before .before .before .before .before .before .if2 .n) (c .before .before .before .before .before .before .before .before .before .before .before .before .before .before .before .before .before .before .before .sheet .section) (u .line) (u .at) (c .before .before .before .before .before .before .before .before .before .before .before .count .given .0 .0) (u .k) (u .inv .3) h (c .before .before .before .before .before .line-end2 .result) (c .before .before .keep .result)
-          (rw (rest (c .before .before .before .before .before .before .before .before .before .before .before .before .before .before .before .before .before .before .before .before .before .args .sheet .now) (c .before .before .before .before .before .before .before .before .loop .at)) at (c .before .before .before .before .before .line-end2 .ensures)) (c .before .before .before .before .if3 .left) (omega arith)
-          (c .before .before .keep .ensures (u .inv .3 .st) _ (u .inv .3 .held) (inner-due (c .before .before .before .before .before .before .before .before .before .before .before .before .before .before .before .before .before .before .before .before .before .args .sheet .now) (u .kept) (c .before .before .before .before .before .before .before .before .before .if2 .n) (c .before .before .before .before .before .before .before .before .before .before .before .before .before .before .before .before .before .before .before .sheet .section) (u .line) (u .at) (c .before .before .before .before .before .before .before .before .before .before .before .count .given .0 .0) (u .k) (u .inv .3) h))
+      inner-pass (c .before .before .before .before .before .before .before .before .before .before .before .before .before .before .before .before .before .before .before .before .before .before .args .sheet .now) (u .kept) (c .before .before .before .before .before .before .before .before .before .if2 .n) (c .before .before .before .before .before .before .before .before .before .before .before .before .before .before .before .before .before .before .before .sheet .section) (u .line) (u .at) (c .before .before .before .before .before .before .before .before .before .before .before .c .given .0 .0) (u .k) (u .inv .3) h (c .before .before .before .before .before .line-end2 .result) (c .before .before .keep .result)
+          (rw (rest (c .before .before .before .before .before .before .before .before .before .before .before .before .before .before .before .before .before .before .before .before .before .before .args .sheet .now) (c .before .before .before .before .before .before .before .before .loop .at)) at (c .before .before .before .before .before .line-end2 .ensures)) (c .before .before .before .before .if3 .left) (omega arith)
+          (c .before .before .keep .ensures (u .inv .3 .st) _ (u .inv .3 .held) (inner-due (c .before .before .before .before .before .before .before .before .before .before .before .before .before .before .before .before .before .before .before .before .before .before .args .sheet .now) (u .kept) (c .before .before .before .before .before .before .before .before .before .if2 .n) (c .before .before .before .before .before .before .before .before .before .before .before .before .before .before .before .before .before .before .before .sheet .section) (u .line) (u .at) (c .before .before .before .before .before .before .before .before .before .before .before .c .given .0 .0) (u .k) (u .inv .3) h))
           (not-false _ (c .if4 .left)),
+      u .inv .4,
     )
 
 add-section : tie.Need-add-section Inv-loop μ-loop Inv-sheet μ-sheet
@@ -137,41 +144,42 @@ sheet-less : tie.Need-sheet-less Inv-loop μ-loop Inv-sheet μ-sheet
 sheet-less c = search needs
 
 sheet-again : tie.Need-sheet-again Inv-loop μ-loop Inv-sheet μ-sheet
-sheet-again c = let u = c .before .loop in (
+sheet-again c = let u = (c .before .loop) in (
   omega arith,
   u .inv .2,
   λ z. absurd (omega arith),
-  inner-last (c .before .before .before .before .before .before .before .before .before .before .before .before .before .before .args .sheet .now) (u .kept) (c .before .before .if2 .n) (c .before .before .before .before .before .before .before .before .before .before .before .before .sheet .section) (u .line) (u .at) (c .before .before .before .before .count .given .0 .0) (u .k) (u .inv .3) (omega arith) (omega arith) (omega arith),
+  inner-last (c .before .before .before .before .before .before .before .before .before .before .before .before .before .before .before .args .sheet .now) (u .kept) (c .before .before .if2 .n) (c .before .before .before .before .before .before .before .before .before .before .before .before .sheet .section) (u .line) (u .at) (c .before .before .before .before .c .given .0 .0) (u .k) (u .inv .3) (omega arith) (omega arith) (omega arith),
+  u .inv .4,
 )
 
 returns : tie.Need-returns Inv-loop μ-loop Inv-sheet μ-sheet
-returns c = let u = c .before .sheet in
-    walk-ended (c .before .before .before .args .sheet .now) (u .kept) (u .n) (u .section) (u .line) (u .at) (u .wrong) (u .inv .1) (omega arith) (u .inv .3)
+returns c = let u = (c .before .sheet) in
+    walk-ended (c .before .before .before .before .args .sheet .now) (u .kept) (u .n) (u .section) (u .line) (u .at) (u .wrong) (u .inv .1) (omega arith) (u .inv .3)
 
 returns-2 : tie.Need-returns-2 Inv-loop μ-loop Inv-sheet μ-sheet
-returns-2 c = let u = c .before .before .before .before .sheet in
-    walk-stopped (c .before .before .before .before .before .before .args .sheet .now) _ (u .inv .3 .reached .line-some)
-    (outer-lack (c .before .before .before .before .before .before .args .sheet .now) (u .kept) (u .n) (u .section) (u .line) (u .at) (u .inv .3) (c .before .line-end .result) (omega arith) (rw (rest (c .before .before .before .before .before .before .args .sheet .now) (c .before .before .before .before .sheet .at)) at (c .before .line-end .ensures)) (c .if1 .taken))
+returns-2 c = let u = (c .before .before .before .before .sheet) in
+    walk-stopped (c .before .before .before .before .before .before .before .args .sheet .now) _ (u .inv .3 .reached .line-some)
+    (outer-lack (c .before .before .before .before .before .before .before .args .sheet .now) (u .kept) (u .n) (u .section) (u .line) (u .at) (u .inv .3) (c .before .line-end .result) (omega arith) (rw (rest (c .before .before .before .before .before .before .before .args .sheet .now) (c .before .before .before .before .sheet .at)) at (c .before .line-end .ensures)) (c .if1 .taken))
 
 returns-3 : tie.Need-returns-3 Inv-loop μ-loop Inv-sheet μ-sheet
-returns-3 c = let u = c .before .before .before .before .before .before .before .before .sheet in
-    walk-stopped (c .before .before .before .before .before .before .before .before .before .before .args .sheet .now) _ (u .inv .3 .reached .line-some)
-    (outer-halt (c .before .before .before .before .before .before .before .before .before .before .args .sheet .now) (u .kept) (u .n) (u .section) (u .line) (u .at) (u .inv .3) (c .before .before .before .before .before .line-end .result) (rw (rest (c .before .before .before .before .before .before .before .before .before .before .args .sheet .now) (c .before .before .before .before .before .before .before .before .sheet .at)) at (c .before .before .before .before .before .line-end .ensures)) (c .before .before .before .before .if1 .left)
-    (subst (λ x. HeadingOf (take (u .at + c .before .before .before .before .before .line-end .result - u .at) (drop (u .at) (c .before .before .before .before .before .before .before .before .before .before .args .sheet .now))) (u .section) (u .n) x) (is-no-count (c .before .before .heading .result) (c .before .match .keys2)) (c .before .before .heading .ensures)))
+returns-3 c = let u = (c .before .before .before .before .before .before .before .before .sheet) in
+    walk-stopped (c .before .before .before .before .before .before .before .before .before .before .before .args .sheet .now) _ (u .inv .3 .reached .line-some)
+    (outer-halt (c .before .before .before .before .before .before .before .before .before .before .before .args .sheet .now) (u .kept) (u .n) (u .section) (u .line) (u .at) (u .inv .3) (c .before .before .before .before .before .line-end .result) (rw (rest (c .before .before .before .before .before .before .before .before .before .before .before .args .sheet .now) (c .before .before .before .before .before .before .before .before .sheet .at)) at (c .before .before .before .before .before .line-end .ensures)) (c .before .before .before .before .if1 .left)
+    (subst (λ x. HeadingOf (take (u .at + c .before .before .before .before .before .line-end .result - u .at) (drop (u .at) (c .before .before .before .before .before .before .before .before .before .before .before .args .sheet .now))) (u .section) (u .n) x) (is-no-count (c .before .before .heading .result) (c .before .match .keys2)) (c .before .before .heading .ensures)))
 
 returns-4 : tie.Need-returns-4 Inv-loop μ-loop Inv-sheet μ-sheet
-returns-4 c = let u = c .before .before .before .before .loop in
-    let h : u .k < c .before .before .before .before .before .before .before .count .given .0 .0 = omega arith in
-    walk-stopped (c .before .before .before .before .before .before .before .before .before .before .before .before .before .before .before .before .before .args .sheet .now) _ (u .inv .3 .reached .line-some)
-    (inner-lack (c .before .before .before .before .before .before .before .before .before .before .before .before .before .before .before .before .before .args .sheet .now) (u .kept) (c .before .before .before .before .before .if2 .n) (c .before .before .before .before .before .before .before .before .before .before .before .before .before .before .before .sheet .section) (u .line) (u .at) (c .before .before .before .before .before .before .before .count .given .0 .0) (u .k) (u .inv .3) h (c .before .line-end2 .result) (rw (rest (c .before .before .before .before .before .before .before .before .before .before .before .before .before .before .before .before .before .args .sheet .now) (c .before .before .before .before .loop .at)) at (c .before .line-end2 .ensures)) (c .if3 .taken))
+returns-4 c = let u = (c .before .before .before .before .loop) in
+    let h : u .k < c .before .before .before .before .before .before .before .c .given .0 .0 = omega arith in
+    walk-stopped (c .before .before .before .before .before .before .before .before .before .before .before .before .before .before .before .before .before .before .args .sheet .now) _ (u .inv .3 .reached .line-some)
+    (inner-lack (c .before .before .before .before .before .before .before .before .before .before .before .before .before .before .before .before .before .before .args .sheet .now) (u .kept) (c .before .before .before .before .before .if2 .n) (c .before .before .before .before .before .before .before .before .before .before .before .before .before .before .before .sheet .section) (u .line) (u .at) (c .before .before .before .before .before .before .before .c .given .0 .0) (u .k) (u .inv .3) h (c .before .line-end2 .result) (rw (rest (c .before .before .before .before .before .before .before .before .before .before .before .before .before .before .before .before .before .before .args .sheet .now) (c .before .before .before .before .loop .at)) at (c .before .line-end2 .ensures)) (c .if3 .taken))
 
 returns-5 : tie.Need-returns-5 Inv-loop μ-loop Inv-sheet μ-sheet
-returns-5 c = let u = c .before .before .before .before .before .before .before .before .loop in
-    let h : u .k < c .before .before .before .before .before .before .before .before .before .before .before .count .given .0 .0 = omega arith in
-    walk-stopped (c .before .before .before .before .before .before .before .before .before .before .before .before .before .before .before .before .before .before .before .before .before .args .sheet .now) _ (u .inv .3 .reached .line-some)
-    (inner-halt (c .before .before .before .before .before .before .before .before .before .before .before .before .before .before .before .before .before .before .before .before .before .args .sheet .now) (u .kept) (c .before .before .before .before .before .before .before .before .before .if2 .n) (c .before .before .before .before .before .before .before .before .before .before .before .before .before .before .before .before .before .before .before .sheet .section) (u .line) (u .at) (c .before .before .before .before .before .before .before .before .before .before .before .count .given .0 .0) (u .k) (u .inv .3) h (c .before .before .before .before .before .line-end2 .result) (c .before .before .keep .result)
-    (rw (rest (c .before .before .before .before .before .before .before .before .before .before .before .before .before .before .before .before .before .before .before .before .before .args .sheet .now) (c .before .before .before .before .before .before .before .before .loop .at)) at (c .before .before .before .before .before .line-end2 .ensures)) (c .before .before .before .before .if3 .left)
-    (c .before .before .keep .ensures (u .inv .3 .st) _ (u .inv .3 .held) (inner-due (c .before .before .before .before .before .before .before .before .before .before .before .before .before .before .before .before .before .before .before .before .before .args .sheet .now) (u .kept) (c .before .before .before .before .before .before .before .before .before .if2 .n) (c .before .before .before .before .before .before .before .before .before .before .before .before .before .before .before .before .before .before .before .sheet .section) (u .line) (u .at) (c .before .before .before .before .before .before .before .before .before .before .before .count .given .0 .0) (u .k) (u .inv .3) h))
+returns-5 c = let u = (c .before .before .before .before .before .before .before .before .loop) in
+    let h : u .k < c .before .before .before .before .before .before .before .before .before .before .before .c .given .0 .0 = omega arith in
+    walk-stopped (c .before .before .before .before .before .before .before .before .before .before .before .before .before .before .before .before .before .before .before .before .before .before .args .sheet .now) _ (u .inv .3 .reached .line-some)
+    (inner-halt (c .before .before .before .before .before .before .before .before .before .before .before .before .before .before .before .before .before .before .before .before .before .before .args .sheet .now) (u .kept) (c .before .before .before .before .before .before .before .before .before .if2 .n) (c .before .before .before .before .before .before .before .before .before .before .before .before .before .before .before .before .before .before .before .sheet .section) (u .line) (u .at) (c .before .before .before .before .before .before .before .before .before .before .before .c .given .0 .0) (u .k) (u .inv .3) h (c .before .before .before .before .before .line-end2 .result) (c .before .before .keep .result)
+    (rw (rest (c .before .before .before .before .before .before .before .before .before .before .before .before .before .before .before .before .before .before .before .before .before .before .args .sheet .now) (c .before .before .before .before .before .before .before .before .loop .at)) at (c .before .before .before .before .before .line-end2 .ensures)) (c .before .before .before .before .if3 .left)
+    (c .before .before .keep .ensures (u .inv .3 .st) _ (u .inv .3 .held) (inner-due (c .before .before .before .before .before .before .before .before .before .before .before .before .before .before .before .before .before .before .before .before .before .before .args .sheet .now) (u .kept) (c .before .before .before .before .before .before .before .before .before .if2 .n) (c .before .before .before .before .before .before .before .before .before .before .before .before .before .before .before .before .before .before .before .sheet .section) (u .line) (u .at) (c .before .before .before .before .before .before .before .before .before .before .before .c .given .0 .0) (u .k) (u .inv .3) h))
     (not-true _ (c .if4 .taken)))
 
 pub walk-spec : {M : Type 1} → statement M
@@ -182,6 +190,7 @@ walk-spec =
     μ-loop
     Inv-sheet
     μ-sheet
+    nothing-kept-requires
     sheet-holds
     sub-line-end
     part-line-end-start
@@ -192,7 +201,7 @@ walk-spec =
     part-heading-start
     part-heading-end
     heading-requires
-    enum-known-count
+    enum-known-c
     enum-told
     add-at
     add-line

@@ -12,7 +12,7 @@ use Rattle.orders.specs.Places.{Square, Marks}
 use Rattle.handed.specs.Conditions.{OutOfSize, Fitting, WrongLength, WrongEntry}
 use Rattle.handed.specs.declared.Listed.{Listed}
 
--- r is the lowest of the numbers 1, 2 and 3 that applies, or 0 where none does
+-- r is the lowest of the numbers 1, 2 and 3 that applies, or another number where none does
 pub record Basic (n : ℕ) (t : List ℤ) (ks : List ℕ) (r : ℕ) : Type 0 where
   pub size : r ≡ 1 → OutOfSize n
   pub lengths : r ≡ 2 → (OutOfSize n → ⊥) × WrongLength n t ks

@@ -14,7 +14,7 @@ use orders::ROWS;
 use orders::entries_stand;
 use orders::place;
 
-// The lowest of the refusals 1, 2 and 3 that applies, or 0: the size, the table's length and four lengths that are to be n, the
+// The lowest of the refusals 1, 2 and 3 that applies, or else 0: the size, the table's length and four lengths that are to be n, the
 // entries.
 pub fn tested(n: usize, table: &[i16], given: usize, adds: usize, stars: usize, heads: usize) -> u32
     ensures { λ r. ⌜ Basic n (now (table .entry)) (given ∷ adds ∷ stars ∷ heads ∷ []) r ⌝ }

@@ -43,7 +43,7 @@ pub data Said (X : Type 0) : Type 0 where
   refuses : ℕ → List ℕ → Said X
 
 -- ---- which refusal is given
--- a refusal's number, and when it is "given exactly when"
+-- a refusal's number, and the condition under which it is given
 pub record Test : Type 1 where
   pub number : ℕ
   pub applies : Type 0

@@ -30,7 +30,7 @@ module _ (n : ℕ) (a : ℕ → ℕ → ℤ) where
       )
 
   -- The rows whose addition is at most B + 2Lt, B being at least every start, number at least t + 1, or are all rows. By induction
-  -- on t: K, on the rows above, finds one of them tied to a row below, hence less than 2L higher: one more row for t + 1.
+  -- on t: K, on the rows above, finds one of them tied to a row below, hence at most 2L higher: one more row for t + 1.
   module _ {L B : ℕ} {start l : ℕ → ℕ} (w : WithinLimit L n a) (lf : LeastFrom n a start l) (starts : (i : ℕ) → i < n → start i ≤ B) where
     abbrev height : ℕ → ℕ
     height t = B + t * (2 * L)

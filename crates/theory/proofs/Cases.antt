@@ -12,7 +12,7 @@ use lib.IntN.{ℤ, pos, negℤ, _+ℤ_}
 use lib.ListN.{length, getD}
 use lib.Signed.{_≤ℤ_, _<ℤ_, leZ, ltZ, leZ-yes, ltZ-yes, ≤ℤ-refl}
 use Rattle.theory.specs.Totals.{total}
-use Rattle.theory.specs.Limits.{order}
+use Rattle.theory.specs.Limits.{rows, order, handed}
 use Rattle.theory.specs.Lists.{nums, ints, flags, columns, StarList}
 use Rattle.theory.specs.Table.{absent, Present, Order, entry, Entries}
 use Rattle.theory.specs.Canon.{Transversal, raised, Maximum, OfMaxima, Canon, LeastFrom, Heads, Before, Stars, sum, Greatest, Misplaced, exceeded, Solution}
@@ -295,15 +295,16 @@ module _ (n : ℕ) (a : ℕ → ℕ → ℤ) (l s : List ℕ) (h : List ℤ) (z 
 module _ (n : ℕ) (a : ℕ → ℕ → ℤ) where
   leads : Handed → Bool
   leads nothing = true
-  leads (additions m) = eqb (length m) n && canon n a (nums m)
+  leads (additions m) = eqb (length m) n && (all n (λ i. leb (nums m i) handed) && canon n a (nums m))
   leads (stars s) = every (star-tests n s) && (all n (λ i. present (a i (columns s i))) && not (surpassed n a (columns s)))
 
   leads-told : (given : Handed) → T (leads given) → Leads n a given
   unfolding leads
   leads-told nothing t = tt
   leads-told (additions m) t =
-      let (e, c) = both (eqb (length m) n) (canon n a (nums m)) t in
-      (eqb→eq (length m) n e, canon-told n a (nums m) c)
+      let (e, r) = both (eqb (length m) n) (all n (λ i. leb (nums m i) handed) && canon n a (nums m)) t in
+      let (f, c) = both (all n (λ i. leb (nums m i) handed)) (canon n a (nums m)) r in
+      (eqb→eq (length m) n e, λ i hi. leb→le (nums m i) handed (all-told n (λ i. leb (nums m i) handed) f i hi), canon-told n a (nums m) c)
   leads-told (stars s) t =
       let (o, r) = both (every (star-tests n s)) (all n (λ i. present (a i (columns s i))) && not (surpassed n a (columns s))) t in
       let (p, q) = both (all n (λ i. present (a i (columns s i)))) (not (surpassed n a (columns s))) r in (
@@ -365,23 +366,27 @@ module _ (n : ℕ) (a : ℕ → ℕ → ℤ) where
 within : ℤ → Bool
 within v = implies (present v) (leZ (negℤ (pos order)) v && leZ v (pos order))
 
+case-tests : Case → List Bool
+case-tests c =
+    leb 1 (c .size) ∷
+    leb (c .size) rows ∷
+    eqb (length (c .table)) (c .size * c .size) ∷
+    all (length (c .table)) (λ k. within (getD (c .table) k (pos 0))) ∷
+    comes (c .size) (entry (c .table) (c .size)) (c .handed) (c .outcome) ∷ []
+
 pub test : Case → Bool
-test c =
-    eqb (length (c .table)) (c .size * c .size)
-    && (all (length (c .table)) (λ k. within (getD (c .table) k (pos 0))) && comes (c .size) (entry (c .table) (c .size)) (c .handed) (c .outcome))
+test c = every (case-tests c)
 
 -- the one theorem: a case that passes the test is right, by the definitions
 pub right : (c : Case) → T (test c) → Right c
-unfolding test within
+unfolding test case-tests within
 right c t =
-    let a : ℕ → ℕ → ℤ = entry (c .table) (c .size) in
-    let (e, r) = both (eqb (length (c .table)) (c .size * c .size))
-    (all (length (c .table)) (λ k. within (getD (c .table) k (pos 0))) && comes (c .size) a (c .handed) (c .outcome)) t in
-    let (w, o) = both (all (length (c .table)) (λ k. within (getD (c .table) k (pos 0)))) (comes (c .size) a (c .handed) (c .outcome)) r in
     record {
-      square = eqb→eq (length (c .table)) (c .size * c .size) e;
-      entries = λ k hk p. orders (getD (c .table) k (pos 0)) (all-told (length (c .table)) (λ k. within (getD (c .table) k (pos 0))) w k hk) p;
-      comes = comes-told (c .size) a (c .handed) (c .outcome) o;
+      some = leb→le 1 (c .size) (every-told (case-tests c) t 0);
+      few = leb→le (c .size) rows (every-told (case-tests c) t 1);
+      square = eqb→eq (length (c .table)) (c .size * c .size) (every-told (case-tests c) t 2);
+      entries = λ k hk p. orders (getD (c .table) k (pos 0)) (all-told (length (c .table)) (λ k. within (getD (c .table) k (pos 0))) (every-told (case-tests c) t 3) k hk) p;
+      comes = comes-told (c .size) (entry (c .table) (c .size)) (c .handed) (c .outcome) (every-told (case-tests c) t 4)
     }
   where
     orders : (v : ℤ) → T (within v) → Present v → Order order v
@@ -400,5 +405,5 @@ all-right (c ∷ cs) t = let (p, q) = both (test c) (tests cs) t in (right c p, 
 
 -- every P table of document 01 is right: the test of the whole list is computed here
 pub cases-right : Every Right cases
-unfolding tests test within comes leads refused-canon refused-stars answer-tests star-tests levels next preceded before surpassed more canon transversal any maximum implies present same total guard every all some listed fresh search found
+unfolding tests test case-tests within comes leads refused-canon refused-stars answer-tests star-tests levels next preceded before surpassed more canon transversal any maximum implies present same total guard every all some listed fresh search found
 cases-right = all-right cases tt

@@ -14,7 +14,7 @@ module _ (n : ℕ) (a : ℕ → ℕ → ℤ) where
     pub present : (i : ℕ) → i < n → Present (a i (σ i))
     pub apart : (i k : ℕ) → i < n → k < n → σ i ≡ σ k → i ≡ k
 
-  -- "each present order of row i is raised by l of row i"
+  -- "each present order of row i is raised by l of row i"; read only where the order is present
   abbrev pub raised : (ℕ → ℕ) → ℕ → ℕ → ℤ
   raised l i j = a i j +ℤ pos (l i)
 
@@ -88,7 +88,8 @@ module _ (n : ℕ) (a : ℕ → ℕ → ℤ) where
     pub transversal : Transversal σ
     pub greatest : (τ : ℕ → ℕ) → Transversal τ → sum τ ≤ℤ sum σ
 
-  -- refusal 8's "a star lies on an absent place, or the stars' sum isn't the greatest"
+  -- refusal 8's "a star lies on an absent place, or the stars' sum isn't the greatest" (where a star is absent the first holds,
+  -- whatever the second says)
   pub data Misplaced (σ : ℕ → ℕ) : Type 0 where
     on-absent : (i : ℕ) → i < n → a i (σ i) ≡ absent → Misplaced σ
     exceeded : (τ : ℕ → ℕ) → Transversal τ → sum σ <ℤ sum τ → Misplaced σ

@@ -2,10 +2,10 @@
 -- Absent is written `-`, rows are parted by `/`; stars are columns from 1, as there.
 use mathlib.Core.Path.{_≡_}
 use mathlib.Core.List.{List, [], _∷_, map}
-use Prim.Native.Nat.{ℕ, _*_}
+use Prim.Native.Nat.{ℕ, _*_, _≤_, _<_}
 use lib.IntN.{ℤ, pos, negℤ}
 use lib.ListN.{length}
-use Rattle.theory.specs.Limits.{order}
+use Rattle.theory.specs.Limits.{rows, order, handed}
 use Rattle.theory.specs.Lists.{nums, ints, columns, StarList}
 use Rattle.theory.specs.Table.{absent, entry, Entries}
 use Rattle.theory.specs.Canon.{Transversal, Canon, Greatest, Misplaced, Solution}
@@ -32,7 +32,7 @@ pub record Case : Type 0 where
 -- a start that leads to the answer: "Any canon within the stated limit, or any transversal of greatest sum"
 abbrev pub Leads : (n : ℕ) → (ℕ → ℕ → ℤ) → Handed → Type 0
 Leads n a nothing = Unit
-Leads n a (additions m) = (length m ≡ n) × Canon n a (nums m)
+Leads n a (additions m) = (length m ≡ n) × ((i : ℕ) → i < n → nums m i ≤ handed) × Canon n a (nums m)
 Leads n a (stars s) = StarList n s × Greatest n a (columns s)
 
 -- the handed start is "no canon", or is misplaced
@@ -59,6 +59,8 @@ Comes n a given refusal8 = SomeTransversal n a × Misplaces n a given
 
 -- the one statement: the table is well formed, and its outcome is right
 pub record Right (c : Case) : Type 0 where
+  pub some : 1 ≤ c .size
+  pub few : c .size ≤ rows
   pub square : length (c .table) ≡ c .size * c .size
   pub entries : Entries order (c .table)
   pub comes : Comes (c .size) (entry (c .table) (c .size)) (c .handed) (c .outcome)
@@ -111,7 +113,7 @@ cases =
     record { size = 2; table = o 5 ∷ o 0 ∷ o 5 ∷ o 0 ∷ []; handed = nothing; outcome = answer (0 ∷ 0 ∷ []) (1 ∷ 2 ∷ []) (o 5 ∷ o 0 ∷ []) (o 5) } ∷
     -- `1 0 / 2 0`
     record { size = 2; table = o 1 ∷ o 0 ∷ o 2 ∷ o 0 ∷ []; handed = nothing; outcome = answer (0 ∷ 0 ∷ []) (2 ∷ 1 ∷ []) (o 2 ∷ o 0 ∷ []) (o 2) } ∷
-    -- `1 0 / 2 0`, stars 1  2
+    -- `1 0 / 2 0`, stars 1 2
     record { size = 2; table = o 1 ∷ o 0 ∷ o 2 ∷ o 0 ∷ []; handed = stars (1 ∷ 2 ∷ []); outcome = refusal8 } ∷
     -- `0 100 / -100 -100`
     record { size = 2; table = o 0 ∷ o 100 ∷ m 100 ∷ m 100 ∷ []; handed = nothing; outcome = answer (0 ∷ 100 ∷ []) (2 ∷ 1 ∷ []) (o 0 ∷ o 100 ∷ []) (o 0) } ∷

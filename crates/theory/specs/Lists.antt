@@ -1,4 +1,5 @@
--- What is lent or held as a list, as a function of the row or the column. Past the list's end it is what a read of code gives.
+-- What is lent or held as a list, as a function of the row or the column. Past the list's end it is 0 (unmarked); no promise depends
+-- on that, since lengths are tested first.
 use mathlib.Core.Path.{_≡_}
 use mathlib.Core.List.{List}
 use mathlib.Core.Bool.{Bool, false}

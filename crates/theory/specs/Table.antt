@@ -14,7 +14,8 @@ absent = negsuc 32767
 abbrev pub Present : ℤ → Type 0
 Present v = v ≢ absent
 
--- "The table comes row by row in one lent slice": what stands in row i and column j of the table of n rows.
+-- "The table comes row by row in one lent slice": what stands in row i and column j of the table of n rows. (Past the list's end it
+-- is 0; the length is tested before a place is read.)
 abbrev pub entry : List ℤ → ℕ → ℕ → ℕ → ℤ
 entry t n i j = getD t (i * n + j) (pos 0)
 

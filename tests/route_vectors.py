@@ -454,6 +454,54 @@ def signed():
             from_columns(f"{n} rows from -{width} to {width}, table {k + 1}", rows, dice.sample(range(1, n + 1), n))
 
 
+# ---- what the documents print themselves ----
+
+JACOBI_SAYS = "sum 508, adds 11 21 33 0 31 24 0 11 22 24, stars 6 2 1 3 4 8 7 5 10 9, heads 47 53 61 49 84 102 91 45 43 110"
+PENDULUM_SAYS = "sum 2, adds 0 0 2, stars 1 3 2, heads 2 2 0"
+PRINTED = {
+    "-3; route 1": "sum -3, adds 0, stars 1, heads -3",
+    "-; route 1": "refused 6",
+    "5 0 / 5 0; route 1": "sum 5, adds 0 0, stars 1 2, heads 5 0",
+    "1 0 / 2 0; route 1": "sum 2, adds 0 0, stars 2 1, heads 2 0",
+    "1 0 / 2 0 with 1 2; route 3": "refused 8",
+    "0 100 / -100 -100; route 1": "sum 0, adds 0 100, stars 2 1, heads 0 100",
+    "100 100 / -100 -100; route 1": "sum 0, adds 0 200, stars 1 2, heads 100 100",
+    "0 - / 7 -; route 1": "refused 6",
+    "0 - / - 7; route 1": "sum 7, adds 0 0",
+    "5 0 0 / 5 0 0 / 0 1 1; route 1": "sum 6, adds 1 1 0, stars 1 2 3, heads 6 1 1",
+    "the pendulum; route 1": PENDULUM_SAYS,
+    "the pendulum from 4 4 6; route 2": PENDULUM_SAYS,
+    "the pendulum from 0 0 1; route 2": "refused 7",
+    "the pendulum from 1 0 2; route 2": "refused 7",
+    "-3 from 10000; route 2": "sum -3, adds 0",
+    "-3 from 10001; route 2": "refused 4",
+    "5 0 / 5 0 with 1 1; route 3": "refused 5",
+    "5 0 / 5 0 with 1 3; route 3": "refused 5",
+    "5 0 / 0 5 from 0 3; route 2": "sum 10, adds 0 0",
+    "5 0 / 0 5 from 0 3; yes or no": "no",
+    "N = 32, all entries 100; route 1": "sum 3200",
+    "N = 33 with 1089 entries; route 1": "refused 1",
+    "101; route 1": "refused 3",
+    "-101; route 1": "refused 3",
+    "Jacobi's square; route 1": JACOBI_SAYS,
+    "Jacobi's square with 6 2 1 3 9 8 7 5 10 4; route 3": JACOBI_SAYS,
+    "Jacobi's square with 6 2 10 3 4 8 7 5 1 9; route 3": JACOBI_SAYS,
+    "Jacobi's square with 6 2 10 3 9 8 7 5 1 4; route 3": JACOBI_SAYS,
+    "Jacobi's square, square H's additions from 11 21 33 0 31 24 0 11 22 24; yes or no": "yes",
+    "001, first example from 5 8 3 1 5 6 0; route 2": "sum 138, adds 4 4 0 0 1 3 0",
+    "001, second example; route 1": "sum 150, adds 14 10 8 2 7 0 0",
+    "000 note 16; route 1": "sum 3, adds 0 1 2, stars 1 2 3, heads 2 2 2",
+    "003 note 7; route 1": "sum 5, adds 0 0",
+}
+
+
+def check_printed(expected):
+    """What documents 000 to 003 and 01 print is what was worked out here."""
+    answers = dict(zip(expected[::2], expected[1::2]))
+    for title, words in PRINTED.items():
+        assert (answers[title] + ",").startswith(words + ","), (title, words, answers[title])
+
+
 # ---- the two files ----
 
 def listed(values):
@@ -469,6 +517,7 @@ def files():
         words, after = outcome(call, n, table, handed_in, lent)
         names = zip(("adds", "stars", "heads"), after)
         expected += [title, words + "".join(", " + " ".join([name] + [str(v) for v in values]) for name, values in names)]
+    check_printed(expected)
     return "\n".join(given) + "\n", "\n".join(expected) + "\n"
 
 

@@ -1,3 +1,4 @@
+-- The size is below 2 ^ 31, so that it can be negated. Assumes nothing.
 use native.Mathlib.Omega.{arith}
 use lib.IntN.{pos}
 use mir.Syntax.{w32}
@@ -5,26 +6,19 @@ use Rattle.theory.proofs.Signed.{signed, minus, toZ-small}
 use borrow.Author.Needs.{needs}
 use Rattle.route_vectors.proofs.head.Statement.{statement}
 use Rattle.route_vectors.proofs.head.Tie as tie
-use Rattle.route_vectors.proofs.head.Reads as reads
-use Rattle.route_vectors.proofs.head.Lts as lts
 
--- src/main.rt:151:9
 returns : tie.Need-returns
 returns c = search needs
 
--- src/main.rt:153:17
 cast-value : tie.Need-cast-value
 cast-value c = search needs
 
--- src/main.rt:155:16
 sub-result : tie.Need-sub-result
 sub-result c = rw (toZ-small w32 (c .before .before .args .size) (omega arith)) (omega (arith, signed, minus (pos 0) (pos (c .before .before .args .size))))
 
--- src/main.rt:155:9
 returns-2 : tie.Need-returns-2
 returns-2 c = search needs
 
--- src/main.rt:149:1
 returns-3 : tie.Need-returns-3
 returns-3 c = search needs
 

@@ -1,59 +1,51 @@
-use mathlib.Core.Path.{sym}
+-- Each count is within its array, as the contract asks, so each part is as long as its count. Assumes nothing.
+use mathlib.Core.Path.{_≡_, sym}
 use native.Mathlib.Omega.{arith}
 use lib.Seq.{length-take-le}
-use Prim.Native.Nat.{ℕ}
+use Prim.Native.Nat.{ℕ, _≤_}
+use mathlib.Core.List.{List}
+use lib.ListN.{length, take}
 use borrow.Author.Needs.{needs}
 use Rattle.route_vectors.proofs.lend.Statement.{statement}
 use Rattle.route_vectors.proofs.lend.Tie as tie
-use Rattle.route_vectors.proofs.lend.Reads as reads
-use Rattle.route_vectors.proofs.lend.Lts as lts
-use Rattle.route_vectors.proofs.print_outcome.Reads as print-outcome-reads
 
--- src/main.rt:352:9
+-- a part from the start is as long as it was asked to be
+cut : {A : Type 0} (k : ℕ) (l : List A) → k ≤ length l → k ≡ length (take k l)
+cut k l h = sym (length-take-le k l h)
+
 array-share-prefix-entries : tie.Need-array-share-prefix-entries
 array-share-prefix-entries c = omega (arith, c .before .before .before .before .before .pre)
 
--- src/main.rt:352:9
 slice-aggregate-print-outcome : tie.Need-slice-aggregate-print-outcome
-slice-aggregate-print-outcome c = sym (length-take-le (c .before .before .before .before .before .before .args .table .count) (c .before .before .before .before .before .before .args .table .values) (omega (arith, c .before .before .before .before .before .before .pre)))
+slice-aggregate-print-outcome c = cut _ _ (omega (arith, c .before .before .before .before .before .before .pre))
 
--- src/main.rt:353:9
 array-share-prefix-handed : tie.Need-array-share-prefix-handed
 array-share-prefix-handed c = omega (arith, c .before .before .before .before .before .before .pre)
 
--- src/main.rt:353:9
 slice-aggregate-print-outcome-2 : tie.Need-slice-aggregate-print-outcome-2
-slice-aggregate-print-outcome-2 c = sym (length-take-le (c .before .before .before .before .before .before .before .args .given .count) (c .before .before .before .before .before .before .before .args .given .values) (omega (arith, c .before .before .before .before .before .before .before .pre)))
+slice-aggregate-print-outcome-2 c = cut _ _ (omega (arith, c .before .before .before .before .before .before .before .pre))
 
--- src/main.rt:354:9
 array-borrow-prefix-added : tie.Need-array-borrow-prefix-added
 array-borrow-prefix-added c = omega (arith, c .before .before .before .before .before .before .before .pre)
 
--- src/main.rt:354:9
 slice-aggregate-print-outcome-3 : tie.Need-slice-aggregate-print-outcome-3
-slice-aggregate-print-outcome-3 c = sym (length-take-le (c .before .before .before .before .before .before .before .before .args .adds .count) (c .before .before .before .before .before .before .before .before .args .adds .values) (omega (arith, c .before .before .before .before .before .before .before .before .pre)))
+slice-aggregate-print-outcome-3 c = cut _ _ (omega (arith, c .before .before .before .before .before .before .before .before .pre))
 
--- src/main.rt:355:9
 array-borrow-prefix-starred : tie.Need-array-borrow-prefix-starred
 array-borrow-prefix-starred c = omega (arith, c .before .before .before .before .before .before .before .before .pre)
 
--- src/main.rt:355:9
 slice-aggregate-print-outcome-4 : tie.Need-slice-aggregate-print-outcome-4
-slice-aggregate-print-outcome-4 c = sym (length-take-le (c .before .before .before .before .before .before .before .before .before .args .stars .count) (c .before .before .before .before .before .before .before .before .before .args .stars .values) (omega (arith, c .before .before .before .before .before .before .before .before .before .pre)))
+slice-aggregate-print-outcome-4 c = cut _ _ (omega (arith, c .before .before .before .before .before .before .before .before .before .pre))
 
--- src/main.rt:356:9
 array-borrow-prefix-headed : tie.Need-array-borrow-prefix-headed
 array-borrow-prefix-headed c = omega (arith, c .before .before .before .before .before .before .before .before .before .pre)
 
--- src/main.rt:356:9
 slice-aggregate-print-outcome-5 : tie.Need-slice-aggregate-print-outcome-5
-slice-aggregate-print-outcome-5 c = sym (length-take-le (c .before .before .before .before .before .before .before .before .before .before .args .heads .count) (c .before .before .before .before .before .before .before .before .before .before .args .heads .values) (omega (arith, c .before .before .before .before .before .before .before .before .before .before .pre)))
+slice-aggregate-print-outcome-5 c = cut _ _ (omega (arith, c .before .before .before .before .before .before .before .before .before .before .pre))
 
--- src/main.rt:349:5
 print-outcome-requires : tie.Need-print-outcome-requires
 print-outcome-requires c κs = search needs
 
--- src/main.rt:336:1
 returns : tie.Need-returns
 returns c = search needs
 

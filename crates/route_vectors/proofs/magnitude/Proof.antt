@@ -1,3 +1,4 @@
+-- The least number is answered before the negation, so that nothing wraps. Assumes nothing.
 use native.Mathlib.Omega.{arith}
 use lib.IntN.{pos, _-ℤ_}
 use mir.Syntax.{w32}
@@ -6,18 +7,13 @@ use Rattle.theory.proofs.Signed.{signed, sfits-ud, minus, ud-nonNeg, natAbs-is}
 use borrow.Author.Needs.{needs}
 use Rattle.route_vectors.proofs.magnitude.Statement.{statement}
 use Rattle.route_vectors.proofs.magnitude.Tie as tie
-use Rattle.route_vectors.proofs.magnitude.Reads as reads
-use Rattle.route_vectors.proofs.magnitude.Lts as lts
 
--- src/main.rt:225:9
 returns : tie.Need-returns
 returns c = search needs
 
--- src/main.rt:228:17
 sub-result : tie.Need-sub-result
 sub-result c = rw (toZ-ofZ (c .before .before .fits .value)) (omega (arith, signed, minus (pos 0) (c .before .before .args .value), simp (toZ-ofZ (c .before .before .fits .value)) at (c .before .if1 .left), simp (toZ-ofZ (c .before .before .fits .value)) at (c .if2 .taken)))
 
--- src/main.rt:228:16
 cast-result : tie.Need-cast-result
 cast-result c =
     rw (toZ-ofZ (c .before .before .fits .value), toZ-ofZ (simp (toZ-ofZ (c .before .before .fits .value)) at (sub-result c))) (
@@ -25,11 +21,9 @@ cast-result c =
       omega (arith, natAbs-is (pos 0 -ℤ (c .before .before .args .value)), sfits-ud w32 (pos 0 -ℤ (c .before .before .args .value)) (simp (toZ-ofZ (c .before .before .fits .value)) at (sub-result c))),
     )
 
--- src/main.rt:228:9
 returns-2 : tie.Need-returns-2
 returns-2 c = search needs
 
--- src/main.rt:230:5
 cast-result-2 : tie.Need-cast-result-2
 cast-result-2 c =
     rw (toZ-ofZ (c .before .before .fits .value)) (
@@ -37,7 +31,6 @@ cast-result-2 c =
       omega (arith, natAbs-is (c .before .before .args .value), sfits-ud w32 (c .before .before .args .value) (c .before .before .fits .value)),
     )
 
--- src/main.rt:223:1
 returns-3 : tie.Need-returns-3
 returns-3 c = search needs
 

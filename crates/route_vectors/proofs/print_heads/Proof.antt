@@ -1,11 +1,9 @@
+-- The measure is what is left of the list. Assumes nothing.
 use Prim.Native.Nat.{_-_}
 use lib.ListN.{length}
 use borrow.Author.Needs.{needs}
 use Rattle.route_vectors.proofs.print_heads.Statement.{statement}
 use Rattle.route_vectors.proofs.print_heads.Tie as tie
-use Rattle.route_vectors.proofs.print_heads.Reads as reads
-use Rattle.route_vectors.proofs.print_heads.Lts as lts
-use Rattle.route_vectors.proofs.print_signed.Reads as print-signed-reads
 
 abbrev Inv-loop : tie.InvT-loop
 Inv-loop list k₀ k = Unit {0}
@@ -13,35 +11,27 @@ Inv-loop list k₀ k = Unit {0}
 abbrev μ-loop : tie.MeasureT-loop
 μ-loop list k₀ k = length list - k
 
--- src/main.rt:240:5
 loop-holds : tie.Need-loop-holds Inv-loop μ-loop
 loop-holds c = search needs
 
--- src/main.rt:241:22
 mul-print-signed : tie.Need-mul-print-signed Inv-loop μ-loop
 mul-print-signed c = search needs
 
--- src/main.rt:241:22
 shared-slice-copy-out-print-signed : tie.Need-shared-slice-copy-out-print-signed Inv-loop μ-loop
 shared-slice-copy-out-print-signed c = search needs
 
--- src/main.rt:241:9
 print-signed-requires : tie.Need-print-signed-requires Inv-loop μ-loop
 print-signed-requires c κs = search needs
 
--- src/main.rt:242:9
 add-k : tie.Need-add-k Inv-loop μ-loop
 add-k c = search needs
 
--- src/main.rt:240:5
 loop-less : tie.Need-loop-less Inv-loop μ-loop
 loop-less c = search needs
 
--- src/main.rt:240:5
 loop-again : tie.Need-loop-again Inv-loop μ-loop
 loop-again c = search needs
 
--- src/main.rt:238:1
 returns : tie.Need-returns Inv-loop μ-loop
 returns c = search needs
 

@@ -1,11 +1,9 @@
+-- The measure is what is left of the list. Assumes nothing.
 use Prim.Native.Nat.{_-_}
 use lib.ListN.{length}
 use borrow.Author.Needs.{needs}
 use Rattle.route_vectors.proofs.print_list.Statement.{statement}
 use Rattle.route_vectors.proofs.print_list.Tie as tie
-use Rattle.route_vectors.proofs.print_list.Reads as reads
-use Rattle.route_vectors.proofs.print_list.Lts as lts
-use Rattle.route_vectors.proofs.print_unsigned.Reads as print-unsigned-reads
 
 abbrev Inv-loop : tie.InvT-loop
 Inv-loop list k₀ k = Unit {0}
@@ -13,35 +11,27 @@ Inv-loop list k₀ k = Unit {0}
 abbrev μ-loop : tie.MeasureT-loop
 μ-loop list k₀ k = length list - k
 
--- src/main.rt:232:5
 loop-holds : tie.Need-loop-holds Inv-loop μ-loop
 loop-holds c = search needs
 
--- src/main.rt:233:24
 mul-print-unsigned : tie.Need-mul-print-unsigned Inv-loop μ-loop
 mul-print-unsigned c = search needs
 
--- src/main.rt:233:24
 shared-slice-read-print-unsigned : tie.Need-shared-slice-read-print-unsigned Inv-loop μ-loop
 shared-slice-read-print-unsigned c = search needs
 
--- src/main.rt:233:9
 print-unsigned-requires : tie.Need-print-unsigned-requires Inv-loop μ-loop
 print-unsigned-requires c κs = search needs
 
--- src/main.rt:234:9
 add-k : tie.Need-add-k Inv-loop μ-loop
 add-k c = search needs
 
--- src/main.rt:232:5
 loop-less : tie.Need-loop-less Inv-loop μ-loop
 loop-less c = search needs
 
--- src/main.rt:232:5
 loop-again : tie.Need-loop-again Inv-loop μ-loop
 loop-again c = search needs
 
--- src/main.rt:230:1
 returns : tie.Need-returns Inv-loop μ-loop
 returns c = search needs
 

@@ -3,21 +3,24 @@ use mathlib.Core.Path.{_≡_, refl, sym, _∙_, ap}
 use mathlib.Core.Logic.{_⊎_, inl, inr}
 use mathlib.Core.Bool.{true, false}
 use mathlib.Core.List.{List, [], _∷_}
-use Prim.Native.Nat.{ℕ, _*_, _≤_, _<_}
+use Prim.Native.Nat.{ℕ, _-_, _*_, _≤_, _<_}
+use native.Mathlib.Decide.{ℕ-discrete, decLe}
 use native.Mathlib.Omega.{arith}
-use lib.IntN.{ℤ}
+use lib.IntN.{ℤ, pos, negℤ}
 use lib.ListN.{length, getD}
 use lib.Seq.{ext-getD}
+use lib.Signed.{_≤ℤ_}
 use Rattle.theory.specs.Limits.{rows, order, handed}
 use Rattle.theory.specs.Lists.{nums, ints, columns, StarList}
-use Rattle.theory.specs.Table.{entry, Entries}
+use Rattle.theory.specs.Table.{entry, Entries, WithinLimit}
 use Rattle.theory.specs.Canon.{Transversal, Canon, Simplest, Greatest, Misplaced, on-absent, exceeded, Solution, Balance}
-use Rattle.theory.proofs.Signed.{signed}
+use Rattle.theory.proofs.Signed.{signed, below-zero}
 use Rattle.theory.proofs.Duality.{balance}
 use Rattle.theory.proofs.Unique.{least-once}
+use Rattle.theory.proofs.Bounds.{addition-bound, head-high, head-low, sum-high, sum-low}
 use Rattle.orders.specs.Refusals.{Test, Lowest, Clear, gives, refuses}
-use Rattle.orders.proofs.Refusals.{lowest-once, lowest-clear}
-use Rattle.handed.specs.Conditions.{OutOfSize, Fitting, NoTransversal, NoCanon, NotGreatest, _given-when_, basic, canon-more, canon-tests, star-more, star-tests}
+use Rattle.orders.proofs.Places.{within}
+use Rattle.handed.specs.Conditions.{OutOfSize, Fitting, TooLarge, WrongStars, NoTransversal, NoCanon, NotGreatest, _given-when_, basic, canon-more, canon-tests, star-more, star-tests}
 use Rattle.canon.specs.Answers.{said, judged}
 use Rattle.canon.specs.Promises.{Routed, refused, answered, Solves, Lowers, Raises, Judges, declines, says-yes, says-no}
 use Rattle.canon.specs.declared.Answer.{Answer}
@@ -82,8 +85,8 @@ module _ {n : ℕ} {t : List ℤ} {adds stars : List ℕ} {heads : List ℤ} (w 
             }
         go (answered s clear says la ls lh sol) = absurd (clear .1 .1 .1 .0 none)
 
-    pub none-if-refused : (k : ℕ) → said r ≡ refuses k [] → NoTransversal n t
-    none-if-refused k e = go p
+    pub none-if-refused : (k : ℕ) (vs : List ℕ) → said r ≡ refuses k vs → NoTransversal n t
+    none-if-refused k vs e = go p
       where
         only : (k : ℕ) → Lowest (_given-when_ 6 (NoTransversal n t) ∷ []) k → NoTransversal n t
         only k (inl q) = q .0
@@ -91,7 +94,7 @@ module _ {n : ℕ} {t : List ℤ} {adds stars : List ℕ} {heads : List ℤ} (w 
 
         go : Solves n t adds stars heads r adds′ stars′ heads′ → NoTransversal n t
         go (refused j l says x y z) = only j (later (_given-when_ 6 (NoTransversal n t) ∷ []) (length adds ∷ length stars ∷ length heads ∷ []) own j l)
-        go (answered s clear says la ls lh sol) = not-both s k [] (sym says ∙ e)
+        go (answered s clear says la ls lh sol) = not-both s k vs (sym says ∙ e)
 
 -- "Otherwise the sum is the column maxima less the additions, no complete transversal has a greater one, and one reaches it exactly
 -- when each of its orders, with its row's addition, is its column's maximum": of any route
@@ -141,7 +144,7 @@ module _ {n : ℕ} {t : List ℤ} {given adds stars : List ℕ} {heads : List �
       go (inl q) = q .0 (canon .columns) (canon .of-maxima .transversal)
       go (inr q) = q .0 canon
   canon-leads {q = q} g canon (answered s clear says la ls lh sol) v (refused k l said′ x y z) =
-      absurd (none-if-refused v {r = q} (refused k l said′ x y z) k said′ (canon .columns) (canon .of-maxima .transversal))
+      absurd (none-if-refused v {r = q} (refused k l said′ x y z) k [] said′ (canon .columns) (canon .of-maxima .transversal))
   canon-leads {a′ = a′} {b′ = b′} {c′ = c′} g canon (answered s clear says la ls lh sol) v (answered s′ clear′ says′ la′ ls′ lh′ sol′) =
       solved-once adds′ a′ stars′ b′ heads′ c′ says says′ la la′ ls ls′ lh lh′ sol sol′
 
@@ -155,7 +158,7 @@ module _ {n : ℕ} {t : List ℤ} {given adds stars : List ℕ} {heads : List �
       go (inl q) = q .0 (columns given) (top .transversal)
       go (inr q) = well-placed top (q .0)
   greatest-leads {q = q} g top (answered s clear says la ls lh sol) v (refused k l said′ x y z) =
-      absurd (none-if-refused v {r = q} (refused k l said′ x y z) k said′ (columns given) (top .transversal))
+      absurd (none-if-refused v {r = q} (refused k l said′ x y z) k [] said′ (columns given) (top .transversal))
   greatest-leads {a′ = a′} {b′ = b′} {c′ = c′} g top (answered s clear says la ls lh sol) v (answered s′ clear′ says′ la′ ls′ lh′ sol′) =
       solved-once adds′ a′ stars′ b′ heads′ c′ says says′ la la′ ls ls′ lh lh′ sol sol′
 
@@ -180,15 +183,90 @@ module _ {n : ℕ} {t : List ℤ} {given adds stars : List ℕ} {heads : List �
       go (inr q) = q .1
   misplaced-refused σ tr g wrong (answered s clear says la ls lh sol) = absurd (clear .1 .1 .1 .1 .1 .0 wrong)
 
+-- and nothing else leads: an answer of route 2 came from a canon within the limit, one of route 3 from a transversal of greatest sum
+pub only-canons-lead : {n : ℕ} {t : List ℤ} (given : List ℕ) {adds stars : List ℕ} {heads : List ℤ} {r : Answer} {adds′ stars′ : List ℕ} {heads′ : List ℤ} {s : ℤ}
+    → Lowers n t given adds stars heads r adds′ stars′ heads′ → said r ≡ gives s
+    → (TooLarge given → ⊥) × (NoCanon n t given → ⊥)
+only-canons-lead given {s = s} (refused k l says x y z) e = not-both s k [] (sym e ∙ says)
+only-canons-lead given (answered z clear says la ls lh sol) e = (clear .1 .1 .1 .0, clear .1 .1 .1 .1 .1 .0)
+
+pub only-greatest-lead : {n : ℕ} {t : List ℤ} (given : List ℕ) {adds stars : List ℕ} {heads : List ℤ} {r : Answer} {adds′ stars′ : List ℕ} {heads′ : List ℤ} {s : ℤ}
+    → Raises n t given adds stars heads r adds′ stars′ heads′ → said r ≡ gives s
+    → (WrongStars n given → ⊥) × (NotGreatest n t given → ⊥)
+only-greatest-lead given {s = s} (refused k l says x y z) e = not-both s k [] (sym e ∙ says)
+only-greatest-lead given (answered z clear says la ls lh sol) e = (clear .1 .1 .1 .0, clear .1 .1 .1 .1 .1 .0)
+
+-- ---- document 01's table of limits: what a route finds
+pub record Found (n : ℕ) (adds : List ℕ) (heads : List ℤ) (s : ℤ) : Type 0 where
+  pub addition : (i : ℕ) → i < n → nums adds i ≤ (n - 1) * 200
+  pub addition-most : (i : ℕ) → i < n → nums adds i ≤ 6200
+  pub head-least : (j : ℕ) → j < n → negℤ (pos 100) ≤ℤ ints heads j
+  pub head-most : (j : ℕ) → j < n → ints heads j ≤ℤ pos 6300
+  pub sum-least : negℤ (pos 3200) ≤ℤ s
+  pub sum-most : s ≤ℤ pos 3200
+
+pub found-within : {n : ℕ} (t : List ℤ) (adds stars : List ℕ) (heads : List ℤ) {s : ℤ} → n ≤ rows → length t ≡ n * n → Entries order t
+    → Solution n (entry t n) (λ i. 0) (nums adds) (columns stars) (ints heads) s → Found n adds heads s
+found-within {n} t adds stars heads {s} few square entries sol =
+    record {
+      addition = low;
+      addition-most = λ i hi. omega (arith, low i hi);
+      head-least = λ j hj. head-low n (entry t n) w hj (sol .heads j hj);
+      head-most = λ j hj. omega (arith, signed, head-high n (entry t n) {B = 0} w (sol .additions) (λ i hi. omega arith) hj (sol .heads j hj));
+      sum-least = rw (sol .is-sum) (omega (arith, signed, sum-low n (entry t n) w tr, below-zero (n * 100)));
+      sum-most = rw (sol .is-sum) (omega (arith, signed, sum-high n (entry t n) w tr))
+    }
+  where
+    w : WithinLimit order n (entry t n)
+    w = within order n t square entries
+
+    tr : Transversal n (entry t n) (columns stars)
+    tr = sol .stars .of-maxima .transversal
+
+    low : (i : ℕ) → i < n → nums adds i ≤ (n - 1) * 200
+    low i hi = omega (arith, addition-bound n (entry t n) {B = 0} w (sol .additions) (λ i hi. omega arith) i hi)
+
 -- ---- "The yes-or-no says yes to these additions only"
+-- what a length test that does not apply tells
+fitting-given : {n : ℕ} (t : List ℤ) (given : List ℕ) → Clear (canon-tests n t given (length given ∷ [])) → length given ≡ n
+fitting-given {n} t given clear =
+    elim (ℕ-discrete (length given) n) [ yes e ↦ e | no ne ↦ absurd (clear .1 .0 (λ f. ne (f .1 .0))) ]
+
+in-rows : {n : ℕ} → (OutOfSize n → ⊥) → n ≤ rows
+in-rows {n} f = elim (decLe n rows) [ yes h ↦ h | no g ↦ absurd (f (inr (omega arith))) ]
+
 module _ {n : ℕ} {t : List ℤ} {given : List ℕ} {v : Verdict} {adds stars : List ℕ} {heads : List ℤ} {r : Answer} {adds′ stars′ : List ℕ} {heads′ : List ℤ} {s : ℤ}
     (p : Solves n t adds stars heads r adds′ stars′ heads′) (e : said r ≡ gives s) where
-  pub yes-only : length given ≡ n → Judges n t given v → judged v ≡ gives true → given ≡ adds′
-  yes-only long j says = go j p
+  pub yes-only : Judges n t given v → judged v ≡ gives true → given ≡ adds′
+  yes-only j says = go j p
     where
       go : Judges n t given v → Solves n t adds stars heads r adds′ stars′ heads′ → given ≡ adds′
       go (declines k l refusal) p = not-both true k [] (sym says ∙ refusal)
       go (says-no clear no-says f) p = absurd (let z = given-once true false (sym says ∙ no-says) in let y : _≡_ {A = ℕ} 0 1 = cc in omega arith)
       go (says-yes clear yes-says simple) (refused k l refusal x y z) = not-both s k [] (sym e ∙ refusal)
       go (says-yes clear yes-says simple) (answered z clear′ says′ la ls lh sol) =
+          let long = fitting-given t given clear in
           ext-getD 0 given adds′ (long ∙ sym la) (λ i hi. least-once n (entry t n) simple (sol .additions) i (omega arith))
+
+-- and it does say yes to them: they are the simplest canon, and within the limit of additions handed in
+pub yes-to-these : {n : ℕ} {t : List ℤ} {v : Verdict} {adds stars : List ℕ} {heads : List ℤ} {r : Answer} {adds′ stars′ : List ℕ} {heads′ : List ℤ} {s : ℤ}
+    → Solves n t adds stars heads r adds′ stars′ heads′ → said r ≡ gives s → Judges n t adds′ v → judged v ≡ gives true
+yes-to-these {s = s} (refused k l says x y z) e j = not-both s k [] (sym e ∙ says)
+yes-to-these {n} {t} {v} {adds} {stars} {heads} {r} {adds′} {stars′} {heads′} (answered z clear says la ls lh sol) e j = go j
+  where
+    -- the tests of route 1 did not apply, so neither do those of the yes-or-no
+    declined : {k : ℕ} → Lowest (canon-tests n t adds′ (length adds′ ∷ [])) k → ⊥
+    declined (inl p) = clear .0 (p .0)
+    declined (inr (x, inl p)) = clear .1 .0 (λ f. p .0 (f .0, (la, tt)))
+    declined (inr (x, inr (y, inl p))) = clear .1 .1 .0 (p .0)
+    declined (inr (x, inr (y, inr (u, inl p)))) =
+        clear .1 .0 (λ f. clear .1 .1 .0 (λ all. p .0 (λ i hi.
+        omega (arith, found-within t adds′ stars′ heads′ (in-rows (clear .0)) (f .0) all sol .addition-most i (omega (arith, la))))))
+    declined (inr (x, inr (y, inr (u, inr (w, inl p))))) = p .0 (columns stars′) (sol .stars .of-maxima .transversal)
+    declined (inr (x, inr (y, inr (u, inr (w, inr (q, inl p)))))) = p .0 (sol .additions .canon)
+    declined (inr (x, inr (y, inr (u, inr (w, inr (q, inr p)))))) = p .1
+
+    go : Judges n t adds′ v → judged v ≡ gives true
+    go (declines k l refusal) = absurd (declined l)
+    go (says-yes c yes-says simple) = yes-says
+    go (says-no c no-says f) = absurd (f (sol .additions))

@@ -29,7 +29,7 @@ determined : {n : ℕ} {t : List ℤ} {adds stars : List ℕ} {heads : List ℤ}
     → WellFormed n t adds stars heads → StarList n s → length l ≡ n → length h ≡ n → Solution n (entry t n) (λ i. 0) (nums l) (columns s) (ints h) z
     → Solves n t adds stars heads r adds′ stars′ heads′ → One r (Sum z) adds′ l stars′ s heads′ h
 determined {r = r} l s h z w ls la lh sol (refused k q says x y u) =
-    absurd (none-if-refused w {r = r} (refused k q says x y u) k says (columns s) (sol .stars .of-maxima .transversal))
+    absurd (none-if-refused w {r = r} (refused k q says x y u) k [] says (columns s) (sol .stars .of-maxima .transversal))
 determined {adds′ = adds′} {stars′ = stars′} {heads′ = heads′} l s h z w ls la lh sol (answered x clear says la′ ls′ lh′ sol′) =
     solved-once adds′ l stars′ s heads′ h says refl la′ la ls′ ls lh′ lh sol′ sol
 

@@ -25,7 +25,7 @@ use Rattle.writer.specs.Promise.{Handed, handed, Sized, Labelling, WritePromise
 use Rattle.writer.proofs.Unique as writer
 use Rattle.sheet_round.proofs.Bound.{sheet-fits}
 
-clash : {X : Type 0} (k n : ℕ) (v : List ℕ) → gives k ≡ refuses n v → X
+pub clash : {X : Type 0} (k n : ℕ) (v : List ℕ) → gives k ≡ refuses n v → X
 clash k n v e = absurd (let z : _≡_ {A = ℕ} 0 1 = cc in omega arith)
 
 -- an answer that gives is no refusal
@@ -41,7 +41,7 @@ read-given s m k (reading.wrong-length n e) = clash k 2 [] e
 read-given s m k (reading.too-long w l e) = clash k 9 [] e
 read-given s m k (reading.wrong-line j w l r e) = clash k 10 (j ∷ []) e
 
-gives-once : (a b : ℕ) → gives a ≡ gives b → a ≡ b
+pub gives-once : (a b : ℕ) → gives a ≡ gives b → a ≡ b
 gives-once a b e = cc
 
 -- labels in a buffer of 8 × n bytes are n
@@ -84,7 +84,7 @@ read-back h o o′ k (wrote s v i t l f g e) m m′ a w p =
     record { table = t; is-handed = l; answer = u .answer ∙ ap gives n; memory = u .memory }
 
 -- the front of a buffer over which x was written is x
-front : {A : Type 0} (x room : List A) (k : ℕ) → length x ≡ k → take k (over x room) ≡ x
+pub front : {A : Type 0} (x room : List A) (k : ℕ) → length x ≡ k → take k (over x room) ≡ x
 front x room k e = take-at x (drop (length x) room) k e
 
 -- what a writer answers to the table that was read from s

@@ -40,22 +40,28 @@ loop-less : tie.Need-loop-less Inv-loop μ-loop
 loop-less c = omega arith
 
 loop-again : tie.Need-loop-again Inv-loop μ-loop
-loop-again c = let l = c .before .before .loop in (
-  omega arith,
-  l .inv .1,
-  l .inv .2,
-  simp length-set (l .inv .3),
-  rw (back w16 (getD (c .before .before .before .args .t1) (l .i) (pos 0)) (c .v .given))
-      (ap (λ x. set x (l .i) (getD (c .before .before .before .args .t1) (l .i) (pos 0))) (l .inv .4) ∙ copy-next (c .before .before .before .args .t1) (c .before .before .before .args .to .now) (l .i) (pos 0) (omega arith) (omega arith)),
-)
+loop-again c = let loop′ = c .before .before .loop in
+    let args′ = c .before .before .before .args in
+    let v′ = c .v in
+    let l = loop′ in (
+      omega arith,
+      l .inv .1,
+      l .inv .2,
+      simp length-set (l .inv .3),
+      rw (back w16 (getD (args′ .t1) (l .i) (pos 0)) (v′ .given))
+          (ap (λ x. set x (l .i) (getD (args′ .t1) (l .i) (pos 0))) (l .inv .4) ∙ copy-next (args′ .t1) (args′ .to .now) (l .i) (pos 0)
+          (omega arith) (omega arith)),
+    )
 
 same-length : tie.Need-same-length Inv-loop μ-loop
 same-length c = c .before .loop .inv .3
 
 returns : tie.Need-returns Inv-loop μ-loop
-returns c = let l = c .before .loop in
-    let e : l .i ≡ c .before .before .args .count = omega arith in
-    l .inv .4 ∙ ap (λ x. take x (c .before .before .args .t1) ++ drop x (c .before .before .args .to .now)) e
+returns c = let loop′ = c .before .loop in
+    let args′ = c .before .before .args in
+    let l = loop′ in
+    let e : l .i ≡ args′ .count = omega arith in
+    l .inv .4 ∙ ap (λ x. take x (args′ .t1) ++ drop x (args′ .to .now)) e
 
 pub copy-entries-spec : {M : Type 1} → statement M
 copy-entries-spec =

@@ -7,7 +7,6 @@ use mathlib.Core.Path.{_≡_, ap}
 use lib.ListN.{length, drop, length-append}
 use Rattle.sheet.proofs.Bytes.{rest}
 use borrow.Author.Tests.{not-true}
-use borrow.Author.Needs.{needs}
 use Rattle.reader.proofs.count_after.Statement.{statement}
 use Rattle.reader.proofs.count_after.Tie as tie
 
@@ -15,13 +14,37 @@ starts-with-requires : tie.Need-starts-with-requires
 starts-with-requires c κs = search needs
 
 sub-whole : tie.Need-sub-whole
-sub-whole c = omega (arith, ap length (c .before .starts-with .ensures .holds (c .if1 .taken)), length-append (c .before .before .before .before .args .head .now) (drop (length (c .before .before .before .before .args .head .now)) (c .before .before .before .before .args .line .now)))
+sub-whole c = let starts-with′ = c .before .starts-with in
+    let if1′ = c .if1 in
+    let args′ = c .before .before .before .before .args in
+    omega (
+      arith,
+      ap length (starts-with′ .ensures .holds (if1′ .taken)),
+      length-append (args′ .head .now) (drop (length
+          (args′ .head .now)) (args′ .line .now)),
+    )
 
 part-whole-start : tie.Need-part-whole-start
-part-whole-start c = omega (arith, ap length (c .before .starts-with .ensures .holds (c .if1 .taken)), length-append (c .before .before .before .before .args .head .now) (drop (length (c .before .before .before .before .args .head .now)) (c .before .before .before .before .args .line .now)))
+part-whole-start c = let starts-with′ = c .before .starts-with in
+    let if1′ = c .if1 in
+    let args′ = c .before .before .before .before .args in
+    omega (
+      arith,
+      ap length (starts-with′ .ensures .holds (if1′ .taken)),
+      length-append (args′ .head .now) (drop (length
+          (args′ .head .now)) (args′ .line .now)),
+    )
 
 part-whole-end : tie.Need-part-whole-end
-part-whole-end c = omega (arith, ap length (c .before .starts-with .ensures .holds (c .if1 .taken)), length-append (c .before .before .before .before .args .head .now) (drop (length (c .before .before .before .before .args .head .now)) (c .before .before .before .before .args .line .now)))
+part-whole-end c = let starts-with′ = c .before .starts-with in
+    let if1′ = c .if1 in
+    let args′ = c .before .before .before .before .args in
+    omega (
+      arith,
+      ap length (starts-with′ .ensures .holds (if1′ .taken)),
+      length-append (args′ .head .now) (drop (length
+          (args′ .head .now)) (args′ .line .now)),
+    )
 
 whole-requires : tie.Need-whole-requires
 whole-requires c κs = search needs
@@ -33,19 +56,40 @@ enum-known-count : tie.Need-enum-known-count
 enum-known-count c = search needs
 
 returns : tie.Need-returns
-returns c = after-low (c .before .before .before .before .before .before .before .before .before .before .args .line .now) (c .before .before .before .before .before .before .before .before .before .before .args .head .now) (c .before .before .before .before .before .before .before .before .before .before .args .low) (c .before .before .before .before .before .before .before .before .before .before .args .high) _ ((count-some (drop (length (c .before .before .before .before .before .before .before .before .before .before .args .head .now)) (c .before .before .before .before .before .before .before .before .before .before .args .line .now)) (c .before .before .before .before .before .before .before .before .before .before .args .high) (c .before .before .before .before .whole .result) _ (rw (rest (c .before .before .before .before .before .before .before .before .before .before .args .line .now) (length (c .before .before .before .before .before .before .before .before .before .before .args .head .now))) at (c .before .before .before .before .whole .ensures)) (c .before .before .count .given .1)) .1) (c .if2 .taken)
+returns c = let args′ = c .before .before .before .before .before .before .before .before .before .before .args in
+    let whole′ = c .before .before .before .before .whole in
+    let count′ = c .before .before .count in
+    let if2′ = c .if2 in
+    after-low (args′ .line .now) (args′ .head .now) (args′ .low) (args′ .high) _ ((count-some (drop (length (args′ .head .now))
+    (args′ .line .now)) (args′ .high) (whole′ .result) _ (rw (rest (args′ .line .now) (length (args′ .head .now))) at
+    (whole′ .ensures)) (count′ .given .1)) .1) (if2′ .taken)
 
 returns-2 : tie.Need-returns-2
-returns-2 c = after-nothing (c .before .before .before .before .before .before .before .before .args .line .now) (c .before .before .before .before .before .before .before .before .args .head .now) (c .before .before .before .before .before .before .before .before .args .low) (c .before .before .before .before .before .before .before .before .args .high)
-    (count-nothing (drop (length (c .before .before .before .before .before .before .before .before .args .head .now)) (c .before .before .before .before .before .before .before .before .args .line .now)) (c .before .before .before .before .before .before .before .before .args .high) (c .before .before .whole .result)
-    (rw (rest (c .before .before .before .before .before .before .before .before .args .line .now) (length (c .before .before .before .before .before .before .before .before .args .head .now))) at (c .before .before .whole .ensures)) (c .before .match .keys1))
+returns-2 c = let args′ = c .before .before .before .before .before .before .before .before .args in
+    let whole′ = c .before .before .whole in
+    let match′ = c .before .match in
+    after-nothing (args′ .line .now) (args′ .head .now) (args′ .low) (args′ .high)
+    (count-nothing (drop (length (args′ .head .now)) (args′ .line .now)) (args′ .high) (whole′ .result)
+    (rw (rest (args′ .line .now) (length (args′ .head .now))) at (whole′ .ensures)) (match′ .keys1))
 
 returns-3 : tie.Need-returns-3
-returns-3 c = after-good (c .before .before .before .before .before .before .before .before .before .before .args .line .now) (c .before .before .before .before .before .before .before .before .before .before .args .head .now) (c .before .before .before .before .before .before .before .before .before .before .args .low) (c .before .before .before .before .before .before .before .before .before .before .args .high) (c .before .before .before .before .before .before .before .starts-with .ensures .holds (c .before .before .before .before .before .before .if1 .taken)) _ ((count-some (drop (length (c .before .before .before .before .before .before .before .before .before .before .args .head .now)) (c .before .before .before .before .before .before .before .before .before .before .args .line .now)) (c .before .before .before .before .before .before .before .before .before .before .args .high) (c .before .before .before .before .whole .result) _ (rw (rest (c .before .before .before .before .before .before .before .before .before .before .args .line .now) (length (c .before .before .before .before .before .before .before .before .before .before .args .head .now))) at (c .before .before .before .before .whole .ensures)) (c .before .before .count .given .1)) .0)
-    ((count-some (drop (length (c .before .before .before .before .before .before .before .before .before .before .args .head .now)) (c .before .before .before .before .before .before .before .before .before .before .args .line .now)) (c .before .before .before .before .before .before .before .before .before .before .args .high) (c .before .before .before .before .whole .result) _ (rw (rest (c .before .before .before .before .before .before .before .before .before .before .args .line .now) (length (c .before .before .before .before .before .before .before .before .before .before .args .head .now))) at (c .before .before .before .before .whole .ensures)) (c .before .before .count .given .1)) .1) (c .if2 .left)
+returns-3 c = let args′ = c .before .before .before .before .before .before .before .before .before .before .args in
+    let starts-with′ = c .before .before .before .before .before .before .before .starts-with in
+    let if1′ = c .before .before .before .before .before .before .if1 in
+    let whole′ = c .before .before .before .before .whole in
+    let count′ = c .before .before .count in
+    let if2′ = c .if2 in
+    after-good (args′ .line .now) (args′ .head .now) (args′ .low) (args′ .high) (starts-with′ .ensures .holds (if1′ .taken)) _
+    ((count-some (drop (length (args′ .head .now)) (args′ .line .now)) (args′ .high) (whole′ .result) _ (rw (rest (args′ .line .now)
+    (length (args′ .head .now))) at (whole′ .ensures)) (count′ .given .1)) .0)
+    ((count-some (drop (length (args′ .head .now)) (args′ .line .now)) (args′ .high) (whole′ .result) _ (rw (rest (args′ .line .now)
+    (length (args′ .head .now))) at (whole′ .ensures)) (count′ .given .1)) .1) (if2′ .left)
 
 returns-4 : tie.Need-returns-4
-returns-4 c = after-no-head (c .before .before .before .before .args .line .now) (c .before .before .before .before .args .head .now) (c .before .before .before .before .args .low) (c .before .before .before .before .args .high) (c .before .starts-with .ensures .fails (c .if1 .left))
+returns-4 c = let args′ = c .before .before .before .before .args in
+    let starts-with′ = c .before .starts-with in
+    let if1′ = c .if1 in
+    after-no-head (args′ .line .now) (args′ .head .now) (args′ .low) (args′ .high) (starts-with′ .ensures .fails (if1′ .left))
 
 pub count-after-spec : {M : Type 1} → statement M
 count-after-spec =

@@ -2,7 +2,6 @@
 use borrow.Author.Needs.{needs}
 use native.Mathlib.Omega.{arith}
 use Rattle.reader.proofs.LineLaws.{heading-rows, heading-cols, heading-orders, square-small}
-use borrow.Author.Needs.{needs}
 use Rattle.reader.proofs.heading.Statement.{statement}
 use Rattle.reader.proofs.heading.Tie as tie
 
@@ -28,13 +27,21 @@ count-after-requires-3 : tie.Need-count-after-requires-3
 count-after-requires-3 c κs = omega (arith, square-small (c .before .before .before .args .n) (c .before .before .before .pre .1))
 
 returns : tie.Need-returns
-returns c = heading-rows (c .before .before .before .before .args .line .now) (c .before .before .before .before .args .n) (c .before .before .before .before .args .section) (c .count-after .result) (c .before .before .match .keys1) (c .count-after .ensures)
+returns c = let args′ = c .before .before .before .before .args in
+    let count-after′ = c .count-after in
+    let match′ = c .before .before .match in
+    heading-rows (args′ .line .now) (args′ .n) (args′ .section) (count-after′ .result) (match′ .keys1) (count-after′ .ensures)
 
 returns-2 : tie.Need-returns-2
-returns-2 c = heading-cols (c .before .before .before .before .args .line .now) (c .before .before .before .before .args .n) (c .before .before .before .before .args .section) (c .count-after2 .result) (c .before .before .match .keys2) (c .count-after2 .ensures)
+returns-2 c = let args′ = c .before .before .before .before .args in
+    let count-after2′ = c .count-after2 in
+    let match′ = c .before .before .match in
+    heading-cols (args′ .line .now) (args′ .n) (args′ .section) (count-after2′ .result) (match′ .keys2) (count-after2′ .ensures)
 
 returns-3 : tie.Need-returns-3
-returns-3 c = heading-orders (c .before .before .before .before .args .line .now) (c .before .before .before .before .args .n) (c .before .before .before .before .args .section) (c .count-after3 .result) (omega arith) (c .count-after3 .ensures)
+returns-3 c = let args′ = c .before .before .before .before .args in
+    let count-after3′ = c .count-after3 in
+    heading-orders (args′ .line .now) (args′ .n) (args′ .section) (count-after3′ .result) (omega arith) (count-after3′ .ensures)
 
 pub heading-spec : {M : Type 1} → statement M
 heading-spec =

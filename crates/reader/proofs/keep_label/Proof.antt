@@ -10,7 +10,6 @@ use lib.Seq.{paste}
 use Rattle.sheet.specs.Labels.{Repeated}
 use Rattle.sheet.proofs.Slots.{labels-short}
 use Rattle.reader.specs.Parts.{Holding}
-use borrow.Author.Needs.{needs}
 use Rattle.reader.proofs.keep_label.Statement.{statement}
 use Rattle.reader.proofs.keep_label.Tie as tie
 
@@ -27,32 +26,45 @@ repeated-requires : tie.Need-repeated-requires
 repeated-requires c κs = search needs
 
 returns : tie.Need-returns
-returns c = let f = (c .before .before .before .before .before .label-stands .ensures .holds (c .before .before .before .before .if1 .taken)) in
-    let b = c .before .before .before .before .before .before .before .args .labels in
-    let l = c .before .before .before .before .before .before .before .args .line .now in
+returns c = let label-stands′ = c .before .before .before .before .before .label-stands in
+    let if1′ = c .before .before .before .before .if1 in
+    let args′ = c .before .before .before .before .before .before .before .args in
+    let put-label′ = c .before .before .before .put-label in
+    let repeated′ = c .before .repeated in
+    let if2′ = c .if2 in
+    let f = (label-stands′ .ensures .holds (if1′ .taken)) in
+    let b = args′ .labels in
+    let l = args′ .line .now in
     λ ls h e p.
-    let m : Holding (c .before .before .before .put-label .result) (ls ++ (l ∷ [])) =
-    c .before .before .before .put-label .ensures
+    let m : Holding (put-label′ .result) (ls ++ (l ∷ [])) =
+    put-label′ .ensures
     ∙ ap (λ x. paste b (8 * x) l (length l)) (sym e) ∙ holding-more b ls l h (labels-short ls p) (f .few) (omega arith) in
     unkept-label ls l b
     (λ g n.
-    repeated-old (c .before .before .before .put-label .result) ls l m p f (omega arith)
-    (subst⁻¹ (λ x. Repeated (c .before .before .before .put-label .result) x) e (c .before .repeated .ensures .holds (c .if2 .taken))) n)
+    repeated-old (put-label′ .result) ls l m p f (omega arith)
+    (subst⁻¹ (λ x. Repeated (put-label′ .result) x) e (repeated′ .ensures .holds (if2′ .taken))) n)
 
 returns-2 : tie.Need-returns-2
-returns-2 c = let f = (c .before .before .before .before .before .label-stands .ensures .holds (c .before .before .before .before .if1 .taken)) in
-    let b = c .before .before .before .before .before .before .before .args .labels in
-    let l = c .before .before .before .before .before .before .before .args .line .now in
+returns-2 c = let label-stands′ = c .before .before .before .before .before .label-stands in
+    let if1′ = c .before .before .before .before .if1 in
+    let args′ = c .before .before .before .before .before .before .before .args in
+    let put-label′ = c .before .before .before .put-label in
+    let repeated′ = c .before .repeated in
+    let if2′ = c .if2 in
+    let f = (label-stands′ .ensures .holds (if1′ .taken)) in
+    let b = args′ .labels in
+    let l = args′ .line .now in
     λ ls h e p.
-    let m : Holding (c .before .before .before .put-label .result) (ls ++ (l ∷ [])) =
-    c .before .before .before .put-label .ensures
+    let m : Holding (put-label′ .result) (ls ++ (l ∷ [])) =
+    put-label′ .ensures
     ∙ ap (λ x. paste b (8 * x) l (length l)) (sym e) ∙ holding-more b ls l h (labels-short ls p) (f .few) (omega arith) in
-    kept-label ls l (c .before .before .before .put-label .result) f
-    (unrepeated-new (c .before .before .before .put-label .result) ls l m p f (omega arith)
-    (λ r. c .before .repeated .ensures .fails (c .if2 .left) (subst (λ x. Repeated (c .before .before .before .put-label .result) x) e r))) m
+    kept-label ls l (put-label′ .result) f
+    (unrepeated-new (put-label′ .result) ls l m p f (omega arith)
+    (λ r. repeated′ .ensures .fails (if2′ .left) (subst (λ x. Repeated (put-label′ .result) x) e r))) m
 
 returns-3 : tie.Need-returns-3
-returns-3 c = λ ls h e p. unkept-label ls (c .before .before .before .args .line .now) (c .before .before .before .args .labels) (λ g n. c .before .label-stands .ensures .fails (c .if1 .left) g)
+returns-3 c = λ ls h e p. unkept-label ls (c .before .before .before .args .line .now) (c .before .before .before .args .labels) (λ
+    g n. c .before .label-stands .ensures .fails (c .if1 .left) g)
 
 pub keep-label-spec : {M : Type 1} → statement M
 keep-label-spec =

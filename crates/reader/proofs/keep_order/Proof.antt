@@ -7,7 +7,6 @@ use Prim.Native.Nat.{_+_, _*_}
 use Rattle.reader.specs.Parts.{PlaceOf}
 use Rattle.sheet.proofs.Lines.{order-once}
 use Rattle.reader.proofs.LineLaws.{order-bits}
-use borrow.Author.Needs.{needs}
 use Rattle.reader.proofs.keep_order.Statement.{statement}
 use Rattle.reader.proofs.keep_order.Tie as tie
 
@@ -21,35 +20,94 @@ enum-known-place : tie.Need-enum-known-place
 enum-known-place c = search needs
 
 mul-at : tie.Need-mul-at
-mul-at c = omega (arith, row-small (c .before .before .before .before .before .before .before .before .args .n) (c .before .place .given .0 .0) (c .before .before .before .before .before .before .before .before .pre) ((subst (λ x. PlaceOf (c .before .before .before .before .before .before .before .before .args .n) (c .before .before .before .before .before .before .before .before .args .line .now) x) (c .before .place .given .1) (c .before .before .before .order-line .ensures)) .row))
+mul-at c = let args′ = c .before .before .before .before .before .before .before .before .args in
+    let place′ = c .before .place in
+    let pre′ = c .before .before .before .before .before .before .before .before .pre in
+    let order-line′ = c .before .before .before .order-line in
+    omega (
+      arith,
+      row-small (args′ .n) (place′ .given .0 .0) (pre′) ((subst (λ x. PlaceOf (args′ .n) (args′ .line .now) x)
+          (place′ .given .1) (order-line′ .ensures)) .row),
+    )
 
 add-at : tie.Need-add-at
-add-at c = omega (arith, place-small (c .before .before .before .before .before .before .before .before .args .n) (c .before .place .given .0 .0) (c .before .place .given .0 .1 .0) (c .before .before .before .before .before .before .before .before .pre) ((subst (λ x. PlaceOf (c .before .before .before .before .before .before .before .before .args .n) (c .before .before .before .before .before .before .before .before .args .line .now) x) (c .before .place .given .1) (c .before .before .before .order-line .ensures)) .row) ((subst (λ x. PlaceOf (c .before .before .before .before .before .before .before .before .args .n) (c .before .before .before .before .before .before .before .before .args .line .now) x) (c .before .place .given .1) (c .before .before .before .order-line .ensures)) .col))
+add-at c = let args′ = c .before .before .before .before .before .before .before .before .args in
+    let place′ = c .before .place in
+    let pre′ = c .before .before .before .before .before .before .before .before .pre in
+    let order-line′ = c .before .before .before .order-line in
+    omega (
+      arith,
+      place-small (args′ .n) (place′ .given .0 .0) (place′ .given .0 .1 .0) (pre′) ((subst (λ x. PlaceOf (args′ .n)
+          (args′ .line .now) x) (place′ .given .1) (order-line′ .ensures)) .row) ((subst (λ x. PlaceOf (args′ .n) (args′ .line .now) x)
+          (place′ .given .1) (order-line′ .ensures)) .col),
+    )
 
 returns : tie.Need-returns
-returns c = λ st m h d. unkept-order (c .before .before .before .before .before .before .before .before .before .args .kept) (c .before .before .before .before .before .before .before .before .before .args .n) m (c .before .before .before .before .before .before .before .before .before .args .line .now) st h d _ refl
+returns c = let args′ = c .before .before .before .before .before .before .before .before .before .args in
+    let place′ = c .before .before .place in
+    let order-line′ = c .before .before .before .before .order-line in
+    let if1′ = c .if1 in
+    λ st m h d. unkept-order (args′ .kept) (args′ .n) m (args′ .line .now) st h d _ refl
     (λ i j v o r.
-    let s = order-once i j v (c .before .before .place .given .0 .0) (c .before .before .place .given .0 .1 .0) (c .before .before .place .given .0 .1 .1 .0) (sym (o .is) ∙ (subst (λ x. PlaceOf (c .before .before .before .before .before .before .before .before .before .args .n) (c .before .before .before .before .before .before .before .before .before .args .line .now) x) (c .before .before .place .given .1) (c .before .before .before .before .order-line .ensures)) .is) in
-    let t : i * c .before .before .before .before .before .before .before .before .before .args .n + j ≡ c .before .before .place .given .0 .0 * c .before .before .before .before .before .before .before .before .before .args .n + c .before .before .place .given .0 .1 .0 = ap (λ x. x * c .before .before .before .before .before .before .before .before .before .args .n + j) (s .row) ∙ ap (λ x. c .before .before .place .given .0 .0 * c .before .before .before .before .before .before .before .before .before .args .n + x) (s .col) in
-    omega (arith, h .next-held, c .if1 .taken))
+    let s = order-once i j v (place′ .given .0 .0) (place′ .given .0 .1 .0) (place′ .given .0 .1 .1 .0) (sym (o .is) ∙ (subst (λ x.
+    PlaceOf (args′ .n) (args′ .line .now) x) (place′ .given .1) (order-line′ .ensures)) .is) in
+    let t : i * args′ .n + j ≡ place′ .given .0 .0 * args′ .n + place′ .given .0 .1 .0 = ap (λ x. x * args′ .n + j) (s .row) ∙ ap (λ
+    x. place′ .given .0 .0 * args′ .n + x) (s .col) in
+    omega (arith, h .next-held, if1′ .taken))
 
 mul-table : tie.Need-mul-table
-mul-table c = omega (arith, place-small (c .before .before .before .before .before .before .before .before .before .args .n) (c .before .before .place .given .0 .0) (c .before .before .place .given .0 .1 .0) (c .before .before .before .before .before .before .before .before .before .pre) ((subst (λ x. PlaceOf (c .before .before .before .before .before .before .before .before .before .args .n) (c .before .before .before .before .before .before .before .before .before .args .line .now) x) (c .before .before .place .given .1) (c .before .before .before .before .order-line .ensures)) .row) ((subst (λ x. PlaceOf (c .before .before .before .before .before .before .before .before .before .args .n) (c .before .before .before .before .before .before .before .before .before .args .line .now) x) (c .before .before .place .given .1) (c .before .before .before .before .order-line .ensures)) .col))
+mul-table c = let args′ = c .before .before .before .before .before .before .before .before .before .args in
+    let place′ = c .before .before .place in
+    let pre′ = c .before .before .before .before .before .before .before .before .before .pre in
+    let order-line′ = c .before .before .before .before .order-line in
+    omega (
+      arith,
+      place-small (args′ .n) (place′ .given .0 .0) (place′ .given .0 .1 .0) (pre′) ((subst (λ x. PlaceOf (args′ .n)
+          (args′ .line .now) x) (place′ .given .1) (order-line′ .ensures)) .row) ((subst (λ x. PlaceOf (args′ .n) (args′ .line .now) x)
+          (place′ .given .1) (order-line′ .ensures)) .col),
+    )
 
 array-set-from-table : tie.Need-array-set-from-table
-array-set-from-table c = place-small (c .before .before .before .before .before .before .before .before .before .args .n) (c .before .before .place .given .0 .0) (c .before .before .place .given .0 .1 .0) (c .before .before .before .before .before .before .before .before .before .pre) ((subst (λ x. PlaceOf (c .before .before .before .before .before .before .before .before .before .args .n) (c .before .before .before .before .before .before .before .before .before .args .line .now) x) (c .before .before .place .given .1) (c .before .before .before .before .order-line .ensures)) .row) ((subst (λ x. PlaceOf (c .before .before .before .before .before .before .before .before .before .args .n) (c .before .before .before .before .before .before .before .before .before .args .line .now) x) (c .before .before .place .given .1) (c .before .before .before .before .order-line .ensures)) .col)
+array-set-from-table c = let args′ = c .before .before .before .before .before .before .before .before .before .args in
+    let place′ = c .before .before .place in
+    let pre′ = c .before .before .before .before .before .before .before .before .before .pre in
+    let order-line′ = c .before .before .before .before .order-line in
+    place-small (args′ .n) (place′ .given .0 .0) (place′ .given .0 .1 .0) (pre′) ((subst (λ x. PlaceOf (args′ .n) (args′ .line .now)
+    x) (place′ .given .1) (order-line′ .ensures)) .row) ((subst (λ x. PlaceOf (args′ .n) (args′ .line .now) x) (place′ .given .1)
+    (order-line′ .ensures)) .col)
 
 add-t15 : tie.Need-add-t15
-add-t15 c = omega (arith, place-small (c .before .before .before .before .before .before .before .before .before .args .n) (c .before .before .place .given .0 .0) (c .before .before .place .given .0 .1 .0) (c .before .before .before .before .before .before .before .before .before .pre) ((subst (λ x. PlaceOf (c .before .before .before .before .before .before .before .before .before .args .n) (c .before .before .before .before .before .before .before .before .before .args .line .now) x) (c .before .before .place .given .1) (c .before .before .before .before .order-line .ensures)) .row) ((subst (λ x. PlaceOf (c .before .before .before .before .before .before .before .before .before .args .n) (c .before .before .before .before .before .before .before .before .before .args .line .now) x) (c .before .before .place .given .1) (c .before .before .before .before .order-line .ensures)) .col))
+add-t15 c = let args′ = c .before .before .before .before .before .before .before .before .before .args in
+    let place′ = c .before .before .place in
+    let pre′ = c .before .before .before .before .before .before .before .before .before .pre in
+    let order-line′ = c .before .before .before .before .order-line in
+    omega (
+      arith,
+      place-small (args′ .n) (place′ .given .0 .0) (place′ .given .0 .1 .0) (pre′) ((subst (λ x. PlaceOf (args′ .n)
+          (args′ .line .now) x) (place′ .given .1) (order-line′ .ensures)) .row) ((subst (λ x. PlaceOf (args′ .n) (args′ .line .now) x)
+          (place′ .given .1) (order-line′ .ensures)) .col),
+    )
 
 returns-2 : tie.Need-returns-2
-returns-2 c = λ st m h d. unkept-order (c .before .before .before .before .before .before .before .args .kept) (c .before .before .before .before .before .before .before .args .n) m (c .before .before .before .before .before .before .before .args .line .now) st h d _ refl
-    (λ i j v o r. (subst (λ x. PlaceOf (c .before .before .before .before .before .before .before .args .n) (c .before .before .before .before .before .before .before .args .line .now) x) (is-no-place (c .before .before .order-line .result) (c .before .match .keys1)) (c .before .before .order-line .ensures)) i j v o)
+returns-2 c = let args′ = c .before .before .before .before .before .before .before .args in
+    let order-line′ = c .before .before .order-line in
+    let match′ = c .before .match in
+    λ st m h d. unkept-order (args′ .kept) (args′ .n) m (args′ .line .now) st h d _ refl
+    (λ i j v o r. (subst (λ x. PlaceOf (args′ .n) (args′ .line .now) x) (is-no-place (order-line′ .result) (match′ .keys1))
+    (order-line′ .ensures)) i j v o)
 
 returns-3 : tie.Need-returns-3
-returns-3 c = λ st m h d. rw (order-bits (c .before .before .place .given .0 .1 .1 .0) ((subst (λ x. PlaceOf (c .before .before .before .before .before .before .before .before .before .args .n) (c .before .before .before .before .before .before .before .before .before .args .line .now) x) (c .before .before .place .given .1) (c .before .before .before .before .order-line .ensures)) .order-stands))
-    (kept-order (c .before .before .before .before .before .before .before .before .before .args .kept) (c .before .before .before .before .before .before .before .before .before .args .n) m (c .before .before .before .before .before .before .before .before .before .args .line .now) st h d (c .before .before .place .given .0 .0) (c .before .before .place .given .0 .1 .0) (c .before .before .place .given .0 .1 .1 .0) (c .before .before .before .before .before .before .before .before .before .pre) (subst (λ x. PlaceOf (c .before .before .before .before .before .before .before .before .before .args .n) (c .before .before .before .before .before .before .before .before .before .args .line .now) x) (c .before .before .place .given .1) (c .before .before .before .before .order-line .ensures))
-    (omega (arith, h .next-held, c .if1 .left)))
+returns-3 c = let place′ = c .before .before .place in
+    let args′ = c .before .before .before .before .before .before .before .before .before .args in
+    let order-line′ = c .before .before .before .before .order-line in
+    let pre′ = c .before .before .before .before .before .before .before .before .before .pre in
+    let if1′ = c .if1 in
+    λ st m h d. rw (order-bits (place′ .given .0 .1 .1 .0) ((subst (λ x. PlaceOf (args′ .n) (args′ .line .now) x) (place′ .given .1)
+    (order-line′ .ensures)) .order-stands))
+    (kept-order (args′ .kept) (args′ .n) m (args′ .line .now) st h d (place′ .given .0 .0) (place′ .given .0 .1 .0)
+    (place′ .given .0 .1 .1 .0) (pre′) (subst (λ x. PlaceOf (args′ .n) (args′ .line .now) x) (place′ .given .1)
+    (order-line′ .ensures))
+    (omega (arith, h .next-held, if1′ .left)))
 
 pub keep-order-spec : {M : Type 1} → statement M
 keep-order-spec =

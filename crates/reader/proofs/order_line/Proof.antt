@@ -9,7 +9,6 @@ use mathlib.Core.Path.{_≡_, sym, subst}
 use lib.ListN.{drop, length, length-drop}
 use lib.Seq.{drop-drop}
 use Rattle.sheet.proofs.Bytes.{rest}
-use borrow.Author.Needs.{needs}
 use Rattle.reader.proofs.order_line.Statement.{statement}
 use Rattle.reader.proofs.order_line.Tie as tie
 
@@ -23,16 +22,29 @@ enum-told : tie.Need-enum-told
 enum-told c = search needs
 
 returns : tie.Need-returns
-returns c = no-row (c .before .before .before .before .args .n) (c .before .before .before .before .args .line .now) (subst (λ y. FieldOf (c .before .before .before .before .args .line .now) (c .before .before .before .before .args .n) y) (is-nothing (c .before .before .field .result) (c .before .match .keys2)) (c .before .before .field .ensures))
+returns c = let args′ = c .before .before .before .before .args in
+    let field′ = c .before .before .field in
+    let match′ = c .before .match in
+    no-row (args′ .n) (args′ .line .now) (subst (λ y. FieldOf (args′ .line .now) (args′ .n) y) (is-nothing (field′ .result)
+    (match′ .keys2)) (field′ .ensures))
 
 sub-field : tie.Need-sub-field
-sub-field c = omega (arith, (field-some (c .before .before .before .before .before .args .line .now) (c .before .before .before .before .before .args .n) (c .before .before .before .field .result) _ _ (c .before .before .before .field .ensures) (c .before .i .given .1)) .inside)
+sub-field c = let args′ = c .before .before .before .before .before .args in
+    let field′ = c .before .before .before .field in
+    let i′ = c .before .i in
+    omega (arith, (field-some (args′ .line .now) (args′ .n) (field′ .result) _ _ (field′ .ensures) (i′ .given .1)) .inside)
 
 part-field-start : tie.Need-part-field-start
-part-field-start c = omega (arith, (field-some (c .before .before .before .before .before .args .line .now) (c .before .before .before .before .before .args .n) (c .before .before .before .field .result) _ _ (c .before .before .before .field .ensures) (c .before .i .given .1)) .inside)
+part-field-start c = let args′ = c .before .before .before .before .before .args in
+    let field′ = c .before .before .before .field in
+    let i′ = c .before .i in
+    omega (arith, (field-some (args′ .line .now) (args′ .n) (field′ .result) _ _ (field′ .ensures) (i′ .given .1)) .inside)
 
 part-field-end : tie.Need-part-field-end
-part-field-end c = omega (arith, (field-some (c .before .before .before .before .before .args .line .now) (c .before .before .before .before .before .args .n) (c .before .before .before .field .result) _ _ (c .before .before .before .field .ensures) (c .before .i .given .1)) .inside)
+part-field-end c = let args′ = c .before .before .before .before .before .args in
+    let field′ = c .before .before .before .field in
+    let i′ = c .before .i in
+    omega (arith, (field-some (args′ .line .now) (args′ .n) (field′ .result) _ _ (field′ .ensures) (i′ .given .1)) .inside)
 
 field-requires-2 : tie.Need-field-requires-2
 field-requires-2 c κs = search needs
@@ -44,19 +56,70 @@ enum-told-2 : tie.Need-enum-told-2
 enum-told-2 c = search needs
 
 returns-2 : tie.Need-returns-2
-returns-2 c = no-col (c .before .before .before .before .before .before .before .before .before .args .n) (c .before .before .before .before .before .before .before .before .before .args .line .now) _ _ (field-some (c .before .before .before .before .before .before .before .before .before .args .line .now) (c .before .before .before .before .before .before .before .before .before .args .n) (c .before .before .before .before .before .before .before .field .result) _ _ (c .before .before .before .before .before .before .before .field .ensures) (c .before .before .before .before .before .i .given .1)) (subst (λ y. FieldOf (drop (c .before .before .before .before .before .i .given .0 .1 .0) (c .before .before .before .before .before .before .before .before .before .args .line .now)) (c .before .before .before .before .before .before .before .before .before .args .n) y) (is-nothing (c .before .before .field2 .result) (c .before .match2 .keys2)) (rw (rest (c .before .before .before .before .before .before .before .before .before .args .line .now) (c .before .before .before .before .before .i .given .0 .1 .0)) at (c .before .before .field2 .ensures)))
+returns-2 c = let args′ = c .before .before .before .before .before .before .before .before .before .args in
+    let field′ = c .before .before .before .before .before .before .before .field in
+    let i′ = c .before .before .before .before .before .i in
+    let field2′ = c .before .before .field2 in
+    let match2′ = c .before .match2 in
+    no-col (args′ .n) (args′ .line .now) _ _ (field-some (args′ .line .now) (args′ .n) (field′ .result) _ _ (field′ .ensures)
+    (i′ .given .1)) (subst (λ y. FieldOf (drop (i′ .given .0 .1 .0) (args′ .line .now)) (args′ .n) y) (is-nothing (field2′ .result)
+    (match2′ .keys2)) (rw (rest (args′ .line .now) (i′ .given .0 .1 .0)) at (field2′ .ensures)))
 
 add-c : tie.Need-add-c
-add-c c = omega (arith, (field-some (c .before .before .before .before .before .before .before .before .before .before .args .line .now) (c .before .before .before .before .before .before .before .before .before .before .args .n) (c .before .before .before .before .before .before .before .before .field .result) _ _ (c .before .before .before .before .before .before .before .before .field .ensures) (c .before .before .before .before .before .before .i .given .1)) .inside, (field-some (drop (c .before .before .before .before .before .before .i .given .0 .1 .0) (c .before .before .before .before .before .before .before .before .before .before .args .line .now)) (c .before .before .before .before .before .before .before .before .before .before .args .n) (c .before .before .before .field2 .result) _ _ (rw (rest (c .before .before .before .before .before .before .before .before .before .before .args .line .now) (c .before .before .before .before .before .before .i .given .0 .1 .0)) at (c .before .before .before .field2 .ensures)) (c .before .j .given .1)) .inside, length-drop (c .before .before .before .before .before .before .i .given .0 .1 .0) (c .before .before .before .before .before .before .before .before .before .before .args .line .now))
+add-c c = let args′ = c .before .before .before .before .before .before .before .before .before .before .args in
+    let field′ = c .before .before .before .before .before .before .before .before .field in
+    let i′ = c .before .before .before .before .before .before .i in
+    let field2′ = c .before .before .before .field2 in
+    let j′ = c .before .j in
+    omega (
+      arith,
+      (field-some (args′ .line .now) (args′ .n) (field′ .result) _ _ (field′ .ensures) (i′ .given .1)) .inside,
+      (field-some (drop (i′ .given .0 .1 .0) (args′ .line .now)) (args′ .n) (field2′ .result) _ _ (rw (rest (args′ .line .now)
+          (i′ .given .0 .1 .0)) at (field2′ .ensures)) (j′ .given .1)) .inside,
+      length-drop (i′ .given .0 .1 .0) (args′ .line .now),
+    )
 
 sub-signed-value : tie.Need-sub-signed-value
-sub-signed-value c = omega (arith, (field-some (c .before .before .before .before .before .before .before .before .before .before .args .line .now) (c .before .before .before .before .before .before .before .before .before .before .args .n) (c .before .before .before .before .before .before .before .before .field .result) _ _ (c .before .before .before .before .before .before .before .before .field .ensures) (c .before .before .before .before .before .before .i .given .1)) .inside, (field-some (drop (c .before .before .before .before .before .before .i .given .0 .1 .0) (c .before .before .before .before .before .before .before .before .before .before .args .line .now)) (c .before .before .before .before .before .before .before .before .before .before .args .n) (c .before .before .before .field2 .result) _ _ (rw (rest (c .before .before .before .before .before .before .before .before .before .before .args .line .now) (c .before .before .before .before .before .before .i .given .0 .1 .0)) at (c .before .before .before .field2 .ensures)) (c .before .j .given .1)) .inside, length-drop (c .before .before .before .before .before .before .i .given .0 .1 .0) (c .before .before .before .before .before .before .before .before .before .before .args .line .now))
+sub-signed-value c = let args′ = c .before .before .before .before .before .before .before .before .before .before .args in
+    let field′ = c .before .before .before .before .before .before .before .before .field in
+    let i′ = c .before .before .before .before .before .before .i in
+    let field2′ = c .before .before .before .field2 in
+    let j′ = c .before .j in
+    omega (
+      arith,
+      (field-some (args′ .line .now) (args′ .n) (field′ .result) _ _ (field′ .ensures) (i′ .given .1)) .inside,
+      (field-some (drop (i′ .given .0 .1 .0) (args′ .line .now)) (args′ .n) (field2′ .result) _ _ (rw (rest (args′ .line .now)
+          (i′ .given .0 .1 .0)) at (field2′ .ensures)) (j′ .given .1)) .inside,
+      length-drop (i′ .given .0 .1 .0) (args′ .line .now),
+    )
 
 part-signed-value-start : tie.Need-part-signed-value-start
-part-signed-value-start c = omega (arith, (field-some (c .before .before .before .before .before .before .before .before .before .before .args .line .now) (c .before .before .before .before .before .before .before .before .before .before .args .n) (c .before .before .before .before .before .before .before .before .field .result) _ _ (c .before .before .before .before .before .before .before .before .field .ensures) (c .before .before .before .before .before .before .i .given .1)) .inside, (field-some (drop (c .before .before .before .before .before .before .i .given .0 .1 .0) (c .before .before .before .before .before .before .before .before .before .before .args .line .now)) (c .before .before .before .before .before .before .before .before .before .before .args .n) (c .before .before .before .field2 .result) _ _ (rw (rest (c .before .before .before .before .before .before .before .before .before .before .args .line .now) (c .before .before .before .before .before .before .i .given .0 .1 .0)) at (c .before .before .before .field2 .ensures)) (c .before .j .given .1)) .inside, length-drop (c .before .before .before .before .before .before .i .given .0 .1 .0) (c .before .before .before .before .before .before .before .before .before .before .args .line .now))
+part-signed-value-start c = let args′ = c .before .before .before .before .before .before .before .before .before .before .args in
+    let field′ = c .before .before .before .before .before .before .before .before .field in
+    let i′ = c .before .before .before .before .before .before .i in
+    let field2′ = c .before .before .before .field2 in
+    let j′ = c .before .j in
+    omega (
+      arith,
+      (field-some (args′ .line .now) (args′ .n) (field′ .result) _ _ (field′ .ensures) (i′ .given .1)) .inside,
+      (field-some (drop (i′ .given .0 .1 .0) (args′ .line .now)) (args′ .n) (field2′ .result) _ _ (rw (rest (args′ .line .now)
+          (i′ .given .0 .1 .0)) at (field2′ .ensures)) (j′ .given .1)) .inside,
+      length-drop (i′ .given .0 .1 .0) (args′ .line .now),
+    )
 
 part-signed-value-end : tie.Need-part-signed-value-end
-part-signed-value-end c = omega (arith, (field-some (c .before .before .before .before .before .before .before .before .before .before .args .line .now) (c .before .before .before .before .before .before .before .before .before .before .args .n) (c .before .before .before .before .before .before .before .before .field .result) _ _ (c .before .before .before .before .before .before .before .before .field .ensures) (c .before .before .before .before .before .before .i .given .1)) .inside, (field-some (drop (c .before .before .before .before .before .before .i .given .0 .1 .0) (c .before .before .before .before .before .before .before .before .before .before .args .line .now)) (c .before .before .before .before .before .before .before .before .before .before .args .n) (c .before .before .before .field2 .result) _ _ (rw (rest (c .before .before .before .before .before .before .before .before .before .before .args .line .now) (c .before .before .before .before .before .before .i .given .0 .1 .0)) at (c .before .before .before .field2 .ensures)) (c .before .j .given .1)) .inside, length-drop (c .before .before .before .before .before .before .i .given .0 .1 .0) (c .before .before .before .before .before .before .before .before .before .before .args .line .now))
+part-signed-value-end c = let args′ = c .before .before .before .before .before .before .before .before .before .before .args in
+    let field′ = c .before .before .before .before .before .before .before .before .field in
+    let i′ = c .before .before .before .before .before .before .i in
+    let field2′ = c .before .before .before .field2 in
+    let j′ = c .before .j in
+    omega (
+      arith,
+      (field-some (args′ .line .now) (args′ .n) (field′ .result) _ _ (field′ .ensures) (i′ .given .1)) .inside,
+      (field-some (drop (i′ .given .0 .1 .0) (args′ .line .now)) (args′ .n) (field2′ .result) _ _ (rw (rest (args′ .line .now)
+          (i′ .given .0 .1 .0)) at (field2′ .ensures)) (j′ .given .1)) .inside,
+      length-drop (i′ .given .0 .1 .0) (args′ .line .now),
+    )
 
 signed-value-requires : tie.Need-signed-value-requires
 signed-value-requires c κs = search needs
@@ -68,16 +131,63 @@ enum-told-3 : tie.Need-enum-told-3
 enum-told-3 c = search needs
 
 returns-3 : tie.Need-returns-3
-returns-3 c = no-order (c .before .before .before .before .before .before .before .before .before .before .before .before .before .before .args .n) (c .before .before .before .before .before .before .before .before .before .before .before .before .before .before .args .line .now) _ _ (field-some (c .before .before .before .before .before .before .before .before .before .before .before .before .before .before .args .line .now) (c .before .before .before .before .before .before .before .before .before .before .before .before .before .before .args .n) (c .before .before .before .before .before .before .before .before .before .before .before .before .field .result) _ _ (c .before .before .before .before .before .before .before .before .before .before .before .before .field .ensures) (c .before .before .before .before .before .before .before .before .before .before .i .given .1)) _ _ (field-some (drop (c .before .before .before .before .before .before .before .before .before .before .i .given .0 .1 .0) (c .before .before .before .before .before .before .before .before .before .before .before .before .before .before .args .line .now)) (c .before .before .before .before .before .before .before .before .before .before .before .before .before .before .args .n) (c .before .before .before .before .before .before .before .field2 .result) _ _ (rw (rest (c .before .before .before .before .before .before .before .before .before .before .before .before .before .before .args .line .now) (c .before .before .before .before .before .before .before .before .before .before .i .given .0 .1 .0)) at (c .before .before .before .before .before .before .before .field2 .ensures)) (c .before .before .before .before .before .j .given .1)) (subst (λ y. ValueOf (drop (c .before .before .before .before .before .j .given .0 .1 .0) (drop (c .before .before .before .before .before .before .before .before .before .before .i .given .0 .1 .0) (c .before .before .before .before .before .before .before .before .before .before .before .before .before .before .args .line .now))) y) (is-no-value (c .before .before .signed-value .result) (c .before .match3 .keys2)) (rw (rest (c .before .before .before .before .before .before .before .before .before .before .before .before .before .before .args .line .now) (c .before .before .before .before .before .before .before .before .before .before .i .given .0 .1 .0 + c .before .before .before .before .before .j .given .0 .1 .0), sym (drop-drop (c .before .before .before .before .before .j .given .0 .1 .0) (c .before .before .before .before .before .before .before .before .before .before .i .given .0 .1 .0) (c .before .before .before .before .before .before .before .before .before .before .before .before .before .before .args .line .now))) at (c .before .before .signed-value .ensures)))
+returns-3 c = let args′ =
+    c .before .before .before .before .before .before .before .before .before .before .before .before .before .before .args in
+    let field′ = c .before .before .before .before .before .before .before .before .before .before .before .before .field in
+    let i′ = c .before .before .before .before .before .before .before .before .before .before .i in
+    let field2′ = c .before .before .before .before .before .before .before .field2 in
+    let j′ = c .before .before .before .before .before .j in
+    let signed-value′ = c .before .before .signed-value in
+    let match3′ = c .before .match3 in
+    no-order (args′ .n) (args′ .line .now) _ _ (field-some (args′ .line .now) (args′ .n) (field′ .result) _ _ (field′ .ensures)
+    (i′ .given .1)) _ _ (field-some (drop (i′ .given .0 .1 .0) (args′ .line .now)) (args′ .n) (field2′ .result) _ _ (rw (rest
+    (args′ .line .now) (i′ .given .0 .1 .0)) at (field2′ .ensures)) (j′ .given .1)) (subst (λ y. ValueOf (drop (j′ .given .0 .1 .0)
+    (drop (i′ .given .0 .1 .0) (args′ .line .now))) y) (is-no-value (signed-value′ .result) (match3′ .keys2)) (rw (
+      rest
+          (args′ .line .now) (i′ .given .0 .1 .0 + j′ .given .0 .1 .0),
+      sym (drop-drop (j′ .given .0 .1 .0) (i′ .given .0 .1 .0)
+          (args′ .line .now)),
+    ) at (signed-value′ .ensures)))
 
 sub-t12 : tie.Need-sub-t12
-sub-t12 c = omega (arith, (field-some (c .before .before .before .before .before .before .before .before .before .before .before .before .before .before .before .args .line .now) (c .before .before .before .before .before .before .before .before .before .before .before .before .before .before .before .args .n) (c .before .before .before .before .before .before .before .before .before .before .before .before .before .field .result) _ _ (c .before .before .before .before .before .before .before .before .before .before .before .before .before .field .ensures) (c .before .before .before .before .before .before .before .before .before .before .before .i .given .1)) .some)
+sub-t12 c = let args′ =
+    c .before .before .before .before .before .before .before .before .before .before .before .before .before .before .before .args
+    in
+    let field′ = c .before .before .before .before .before .before .before .before .before .before .before .before .before .field in
+    let i′ = c .before .before .before .before .before .before .before .before .before .before .before .i in
+    omega (arith, (field-some (args′ .line .now) (args′ .n) (field′ .result) _ _ (field′ .ensures) (i′ .given .1)) .some)
 
 sub-t19 : tie.Need-sub-t19
-sub-t19 c = omega (arith, (field-some (drop (c .before .before .before .before .before .before .before .before .before .before .before .i .given .0 .1 .0) (c .before .before .before .before .before .before .before .before .before .before .before .before .before .before .before .args .line .now)) (c .before .before .before .before .before .before .before .before .before .before .before .before .before .before .before .args .n) (c .before .before .before .before .before .before .before .before .field2 .result) _ _ (rw (rest (c .before .before .before .before .before .before .before .before .before .before .before .before .before .before .before .args .line .now) (c .before .before .before .before .before .before .before .before .before .before .before .i .given .0 .1 .0)) at (c .before .before .before .before .before .before .before .before .field2 .ensures)) (c .before .before .before .before .before .before .j .given .1)) .some)
+sub-t19 c = let i′ = c .before .before .before .before .before .before .before .before .before .before .before .i in
+    let args′ =
+    c .before .before .before .before .before .before .before .before .before .before .before .before .before .before .before .args
+    in
+    let field2′ = c .before .before .before .before .before .before .before .before .field2 in
+    let j′ = c .before .before .before .before .before .before .j in
+    omega (
+      arith,
+      (field-some (drop (i′ .given .0 .1 .0) (args′ .line .now)) (args′ .n) (field2′ .result) _ _ (rw (rest
+          (args′ .line .now) (i′ .given .0 .1 .0)) at (field2′ .ensures)) (j′ .given .1)) .some,
+    )
 
 returns-4 : tie.Need-returns-4
-returns-4 c = let h = subst (λ y. ValueOf (drop (c .before .before .before .before .before .before .j .given .0 .1 .0) (drop (c .before .before .before .before .before .before .before .before .before .before .before .i .given .0 .1 .0) (c .before .before .before .before .before .before .before .before .before .before .before .before .before .before .before .args .line .now))) y) (c .before .v .given .1) (rw (rest (c .before .before .before .before .before .before .before .before .before .before .before .before .before .before .before .args .line .now) (c .before .before .before .before .before .before .before .before .before .before .before .i .given .0 .1 .0 + c .before .before .before .before .before .before .j .given .0 .1 .0), sym (drop-drop (c .before .before .before .before .before .before .j .given .0 .1 .0) (c .before .before .before .before .before .before .before .before .before .before .before .i .given .0 .1 .0) (c .before .before .before .before .before .before .before .before .before .before .before .before .before .before .before .args .line .now))) at (c .before .before .before .signed-value .ensures)) in rw (order-bits (c .before .v .given .0 .0) (h .0)) (order-good (c .before .before .before .before .before .before .before .before .before .before .before .before .before .before .before .args .n) (c .before .before .before .before .before .before .before .before .before .before .before .before .before .before .before .args .line .now) _ _ (field-some (c .before .before .before .before .before .before .before .before .before .before .before .before .before .before .before .args .line .now) (c .before .before .before .before .before .before .before .before .before .before .before .before .before .before .before .args .n) (c .before .before .before .before .before .before .before .before .before .before .before .before .before .field .result) _ _ (c .before .before .before .before .before .before .before .before .before .before .before .before .before .field .ensures) (c .before .before .before .before .before .before .before .before .before .before .before .i .given .1)) _ _ (field-some (drop (c .before .before .before .before .before .before .before .before .before .before .before .i .given .0 .1 .0) (c .before .before .before .before .before .before .before .before .before .before .before .before .before .before .before .args .line .now)) (c .before .before .before .before .before .before .before .before .before .before .before .before .before .before .before .args .n) (c .before .before .before .before .before .before .before .before .field2 .result) _ _ (rw (rest (c .before .before .before .before .before .before .before .before .before .before .before .before .before .before .before .args .line .now) (c .before .before .before .before .before .before .before .before .before .before .before .i .given .0 .1 .0)) at (c .before .before .before .before .before .before .before .before .field2 .ensures)) (c .before .before .before .before .before .before .j .given .1)) _ h)
+returns-4 c = let j′ = c .before .before .before .before .before .before .j in
+    let i′ = c .before .before .before .before .before .before .before .before .before .before .before .i in
+    let args′ =
+    c .before .before .before .before .before .before .before .before .before .before .before .before .before .before .before .args
+    in
+    let v′ = c .before .v in
+    let signed-value′ = c .before .before .before .signed-value in
+    let field′ = c .before .before .before .before .before .before .before .before .before .before .before .before .before .field in
+    let field2′ = c .before .before .before .before .before .before .before .before .field2 in
+    let h = subst (λ y. ValueOf (drop (j′ .given .0 .1 .0) (drop (i′ .given .0 .1 .0) (args′ .line .now))) y) (v′ .given .1) (rw (
+      rest (args′ .line .now) (i′ .given .0 .1 .0 + j′ .given .0 .1 .0),
+      sym (drop-drop (j′ .given .0 .1 .0) (i′ .given .0 .1 .0)
+          (args′ .line .now)),
+    ) at (signed-value′ .ensures)) in rw (order-bits (v′ .given .0 .0) (h .0)) (order-good (args′ .n)
+    (args′ .line .now) _ _ (field-some (args′ .line .now) (args′ .n) (field′ .result) _ _ (field′ .ensures) (i′ .given .1)) _ _
+    (field-some (drop (i′ .given .0 .1 .0) (args′ .line .now)) (args′ .n) (field2′ .result) _ _ (rw (rest (args′ .line .now)
+    (i′ .given .0 .1 .0)) at (field2′ .ensures)) (j′ .given .1)) _ h)
 
 pub order-line-spec : {M : Type 1} → statement M
 order-line-spec =

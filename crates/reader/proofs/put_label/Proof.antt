@@ -19,7 +19,14 @@ mul-at : tie.Need-mul-at Inv-loop μ-loop
 mul-at c = search needs
 
 loop-holds : tie.Need-loop-holds Inv-loop μ-loop
-loop-holds c = (omega arith, omega arith, search needs, search needs, paste-zero (c .args .labels) (8 * c .args .k) (c .args .line .now))
+loop-holds c = (
+  omega arith,
+  omega arith,
+  search needs,
+  search needs,
+  paste-zero (c .args .labels) (8 * c .args .k)
+      (c .args .line .now),
+)
 
 shared-slice-read-kept : tie.Need-shared-slice-read-kept Inv-loop μ-loop
 shared-slice-read-kept c = search needs
@@ -37,20 +44,24 @@ loop-less : tie.Need-loop-less Inv-loop μ-loop
 loop-less c = search needs
 
 loop-again : tie.Need-loop-again Inv-loop μ-loop
-loop-again c = let l = c .before .before .loop in (
-  omega arith,
-  l .inv .1,
-  l .inv .2,
-  simp length-set (l .inv .3),
-  ap (λ x. set x (8 * c .before .before .before .args .k + l .i) (getD (c .before .before .before .args .line .now) (l .i) 0)) (l .inv .4)
-      ∙ paste-suc (c .before .before .before .args .labels) (8 * c .before .before .before .args .k) (c .before .before .before .args .line .now) (l .i) 0 (omega arith) (omega arith)
-      ∙ ap (λ x. paste (c .before .before .before .args .labels) (8 * c .before .before .before .args .k) (c .before .before .before .args .line .now) x) (sym (add-one (l .i))),
-)
+loop-again c = let loop′ = c .before .before .loop in
+    let args′ = c .before .before .before .args in
+    let l = loop′ in (
+      omega arith,
+      l .inv .1,
+      l .inv .2,
+      simp length-set (l .inv .3),
+      ap (λ x. set x (8 * args′ .k + l .i) (getD (args′ .line .now) (l .i) 0)) (l .inv .4)
+          ∙ paste-suc (args′ .labels) (8 * args′ .k) (args′ .line .now) (l .i) 0 (omega arith) (omega arith)
+          ∙ ap (λ x. paste (args′ .labels) (8 * args′ .k) (args′ .line .now) x) (sym (add-one (l .i))),
+    )
 
 returns : tie.Need-returns Inv-loop μ-loop
-returns c = let l = c .before .loop in
-    let e : l .i ≡ length (c .before .before .args .line .now) = omega arith in
-    l .inv .4 ∙ ap (λ x. paste (c .before .before .args .labels) (8 * c .before .before .args .k) (c .before .before .args .line .now) x) e
+returns c = let loop′ = c .before .loop in
+    let args′ = c .before .before .args in
+    let l = loop′ in
+    let e : l .i ≡ length (args′ .line .now) = omega arith in
+    l .inv .4 ∙ ap (λ x. paste (args′ .labels) (8 * args′ .k) (args′ .line .now) x) e
 
 pub put-label-spec : {M : Type 1} → statement M
 put-label-spec =

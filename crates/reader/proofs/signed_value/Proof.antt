@@ -7,7 +7,6 @@ use mathlib.Core.Path.{_≡_, sym, ap, _∙_}
 use lib.ListN.{drop}
 use Rattle.sheet.specs.Text.{text}
 use Rattle.sheet.proofs.Bytes.{rest}
-use borrow.Author.Needs.{needs}
 use Rattle.reader.proofs.signed_value.Statement.{statement}
 use Rattle.reader.proofs.signed_value.Tie as tie
 
@@ -36,13 +35,27 @@ enum-known-count : tie.Need-enum-known-count
 enum-known-count c = search needs
 
 returns-2 : tie.Need-returns-2
-returns-2 c = minus-zero (c .before .before .before .before .before .before .before .before .before .before .args .s .now) (omega arith) (c .before .before .before .before .before .before .if2 .taken) ((count-some (drop 1 (c .before .before .before .before .before .before .before .before .before .before .args .s .now)) 100 (c .before .before .before .before .whole .result) _ (rw (rest (c .before .before .before .before .before .before .before .before .before .before .args .s .now) 1) at (c .before .before .before .before .whole .ensures)) (c .before .before .count .given .1)) .1 ∙ ap text (c .if3 .taken))
+returns-2 c = let args′ = c .before .before .before .before .before .before .before .before .before .before .args in
+    let if2′ = c .before .before .before .before .before .before .if2 in
+    let whole′ = c .before .before .before .before .whole in
+    let count′ = c .before .before .count in
+    let if3′ = c .if3 in
+    minus-zero (args′ .s .now) (omega arith) (if2′ .taken) ((count-some (drop 1 (args′ .s .now)) 100 (whole′ .result) _ (rw (rest
+    (args′ .s .now) 1) at (whole′ .ensures)) (count′ .given .1)) .1 ∙ ap text (if3′ .taken))
 
 cast-t17 : tie.Need-cast-t17
-cast-t17 c = fits-value _ ((count-some (drop 1 (c .before .before .before .before .before .before .before .before .before .before .args .s .now)) 100 (c .before .before .before .before .whole .result) _ (rw (rest (c .before .before .before .before .before .before .before .before .before .before .args .s .now) 1) at (c .before .before .before .before .whole .ensures)) (c .before .before .count .given .1)) .0)
+cast-t17 c = let args′ = c .before .before .before .before .before .before .before .before .before .before .args in
+    let whole′ = c .before .before .before .before .whole in
+    let count′ = c .before .before .count in
+    fits-value _ ((count-some (drop 1 (args′ .s .now)) 100 (whole′ .result) _ (rw (rest (args′ .s .now) 1) at (whole′ .ensures))
+    (count′ .given .1)) .0)
 
 sub-t18 : tie.Need-sub-t18
-sub-t18 c = fits-minus _ ((count-some (drop 1 (c .before .before .before .before .before .before .before .before .before .before .args .s .now)) 100 (c .before .before .before .before .whole .result) _ (rw (rest (c .before .before .before .before .before .before .before .before .before .before .args .s .now) 1) at (c .before .before .before .before .whole .ensures)) (c .before .before .count .given .1)) .0)
+sub-t18 c = let args′ = c .before .before .before .before .before .before .before .before .before .before .args in
+    let whole′ = c .before .before .before .before .whole in
+    let count′ = c .before .before .count in
+    fits-minus _ ((count-some (drop 1 (args′ .s .now)) 100 (whole′ .result) _ (rw (rest (args′ .s .now) 1) at (whole′ .ensures))
+    (count′ .given .1)) .0)
 
 whole-requires-2 : tie.Need-whole-requires-2
 whole-requires-2 c κs = search needs
@@ -54,22 +67,50 @@ enum-known-count-2 : tie.Need-enum-known-count-2
 enum-known-count-2 c = search needs
 
 cast-t20 : tie.Need-cast-t20
-cast-t20 c = fits-value _ ((count-some (c .before .before .before .before .before .before .before .before .args .s .now) 100 (c .before .before .before .whole2 .result) _ (c .before .before .before .whole2 .ensures) (c .before .count2 .given .1)) .0)
+cast-t20 c = let args′ = c .before .before .before .before .before .before .before .before .args in
+    let whole2′ = c .before .before .before .whole2 in
+    let count2′ = c .before .count2 in
+    fits-value _ ((count-some (args′ .s .now) 100 (whole2′ .result) _ (whole2′ .ensures) (count2′ .given .1)) .0)
 
 returns-3 : tie.Need-returns-3
-returns-3 c = minus-nothing (c .before .before .before .before .before .before .before .before .args .s .now) (omega arith) (c .before .before .before .before .if2 .taken) (count-nothing (drop 1 (c .before .before .before .before .before .before .before .before .args .s .now)) 100 (c .before .before .whole .result) (rw (rest (c .before .before .before .before .before .before .before .before .args .s .now) 1) at (c .before .before .whole .ensures)) (c .before .match .keys1))
+returns-3 c = let args′ = c .before .before .before .before .before .before .before .before .args in
+    let if2′ = c .before .before .before .before .if2 in
+    let whole′ = c .before .before .whole in
+    let match′ = c .before .match in
+    minus-nothing (args′ .s .now) (omega arith) (if2′ .taken) (count-nothing (drop 1 (args′ .s .now)) 100 (whole′ .result) (rw (rest
+    (args′ .s .now) 1) at (whole′ .ensures)) (match′ .keys1))
 
 returns-4 : tie.Need-returns-4
-returns-4 c = let v = c .before .before .count .given .0 .0 in
+returns-4 c = let count′ = c .before .before .count in
+    let args′ = c .before .before .before .before .before .before .before .before .before .before .args in
+    let whole′ = c .before .before .before .before .whole in
+    let if2′ = c .before .before .before .before .before .before .if2 in
+    let v = count′ .given .0 .0 in
     let e : v ≡ suc (v - 1) = omega arith in
-    rw (minus-bits v (omega arith) ((count-some (drop 1 (c .before .before .before .before .before .before .before .before .before .before .args .s .now)) 100 (c .before .before .before .before .whole .result) _ (rw (rest (c .before .before .before .before .before .before .before .before .before .before .args .s .now) 1) at (c .before .before .before .before .whole .ensures)) (c .before .before .count .given .1)) .0))
-    (minus-good (c .before .before .before .before .before .before .before .before .before .before .args .s .now) (omega arith) (c .before .before .before .before .before .before .if2 .taken) (v - 1) (omega (arith, (count-some (drop 1 (c .before .before .before .before .before .before .before .before .before .before .args .s .now)) 100 (c .before .before .before .before .whole .result) _ (rw (rest (c .before .before .before .before .before .before .before .before .before .before .args .s .now) 1) at (c .before .before .before .before .whole .ensures)) (c .before .before .count .given .1)) .0)) ((count-some (drop 1 (c .before .before .before .before .before .before .before .before .before .before .args .s .now)) 100 (c .before .before .before .before .whole .result) _ (rw (rest (c .before .before .before .before .before .before .before .before .before .before .args .s .now) 1) at (c .before .before .before .before .whole .ensures)) (c .before .before .count .given .1)) .1 ∙ ap text e))
+    rw (minus-bits v (omega arith) ((count-some (drop 1 (args′ .s .now)) 100 (whole′ .result) _ (rw (rest (args′ .s .now) 1) at
+    (whole′ .ensures)) (count′ .given .1)) .0))
+    (minus-good (args′ .s .now) (omega arith) (if2′ .taken) (v - 1) (omega (
+      arith,
+      (count-some (drop 1 (args′ .s .now)) 100
+          (whole′ .result) _ (rw (rest (args′ .s .now) 1) at (whole′ .ensures)) (count′ .given .1)) .0,
+    )) ((count-some (drop 1
+    (args′ .s .now)) 100 (whole′ .result) _ (rw (rest (args′ .s .now) 1) at (whole′ .ensures)) (count′ .given .1)) .1 ∙ ap text e))
 
 returns-5 : tie.Need-returns-5
-returns-5 c = plus-nothing (c .before .before .before .before .before .before .before .args .s .now) (omega arith) (c .before .before .before .if2 .left) (count-nothing (c .before .before .before .before .before .before .before .args .s .now) 100 (c .before .before .whole2 .result) (c .before .before .whole2 .ensures) (c .before .match2 .keys1))
+returns-5 c = let args′ = c .before .before .before .before .before .before .before .args in
+    let if2′ = c .before .before .before .if2 in
+    let whole2′ = c .before .before .whole2 in
+    let match2′ = c .before .match2 in
+    plus-nothing (args′ .s .now) (omega arith) (if2′ .left) (count-nothing (args′ .s .now) 100 (whole2′ .result) (whole2′ .ensures)
+    (match2′ .keys1))
 
 returns-6 : tie.Need-returns-6
-returns-6 c = rw (plus-bits _ ((count-some (c .before .before .before .before .before .before .before .before .args .s .now) 100 (c .before .before .before .whole2 .result) _ (c .before .before .before .whole2 .ensures) (c .before .count2 .given .1)) .0)) (plus-good (c .before .before .before .before .before .before .before .before .args .s .now) _ ((count-some (c .before .before .before .before .before .before .before .before .args .s .now) 100 (c .before .before .before .whole2 .result) _ (c .before .before .before .whole2 .ensures) (c .before .count2 .given .1)) .0) ((count-some (c .before .before .before .before .before .before .before .before .args .s .now) 100 (c .before .before .before .whole2 .result) _ (c .before .before .before .whole2 .ensures) (c .before .count2 .given .1)) .1))
+returns-6 c = let args′ = c .before .before .before .before .before .before .before .before .args in
+    let whole2′ = c .before .before .before .whole2 in
+    let count2′ = c .before .count2 in
+    rw (plus-bits _ ((count-some (args′ .s .now) 100 (whole2′ .result) _ (whole2′ .ensures) (count2′ .given .1)) .0)) (plus-good
+    (args′ .s .now) _ ((count-some (args′ .s .now) 100 (whole2′ .result) _ (whole2′ .ensures) (count2′ .given .1)) .0) ((count-some
+    (args′ .s .now) 100 (whole2′ .result) _ (whole2′ .ensures) (count2′ .given .1)) .1))
 
 pub signed-value-spec : {M : Type 1} → statement M
 signed-value-spec =

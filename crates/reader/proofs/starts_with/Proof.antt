@@ -20,7 +20,8 @@ loop-holds : tie.Need-loop-holds Inv-loop μ-loop
 loop-holds c = (omega arith, omega arith, λ k h. absurd (omega arith))
 
 returns : tie.Need-returns Inv-loop μ-loop
-returns c = tells-no (begins-short (c .before .before .before .args .s .now) (c .before .before .before .args .head .now) (omega arith))
+returns c = tells-no (begins-short (c .before .before .before .args .s .now) (c .before .before .before .args .head .now) (omega
+    arith))
 
 shared-slice-read-if2 : tie.Need-shared-slice-read-if2 Inv-loop μ-loop
 shared-slice-read-if2 c = search needs
@@ -29,7 +30,10 @@ shared-slice-read-if2-2 : tie.Need-shared-slice-read-if2-2 Inv-loop μ-loop
 shared-slice-read-if2-2 c = search needs
 
 returns-2 : tie.Need-returns-2 Inv-loop μ-loop
-returns-2 c = tells-no (begins-differ (c .before .before .before .before .before .before .args .s .now) (c .before .before .before .before .before .before .args .head .now) (c .before .before .before .before .before .loop .i) (omega arith) (c .if2 .taken))
+returns-2 c = let args′ = c .before .before .before .before .before .before .args in
+    let loop′ = c .before .before .before .before .before .loop in
+    let if2′ = c .if2 in
+    tells-no (begins-differ (args′ .s .now) (args′ .head .now) (loop′ .i) (omega arith) (if2′ .taken))
 
 add-i : tie.Need-add-i Inv-loop μ-loop
 add-i c = search needs
@@ -41,7 +45,8 @@ loop-again : tie.Need-loop-again Inv-loop μ-loop
 loop-again c = (omega arith, omega arith, below-more _ _ (c .before .before .before .before .before .loop .inv .2) (c .if2 .left))
 
 returns-3 : tie.Need-returns-3 Inv-loop μ-loop
-returns-3 c = tells-yes (begins-same (c .before .before .args .s .now) (c .before .before .args .head .now) (omega arith) (λ k h. c .before .loop .inv .2 k (omega arith)))
+returns-3 c = tells-yes (begins-same (c .before .before .args .s .now) (c .before .before .args .head .now) (omega arith) (λ k h.
+    c .before .loop .inv .2 k (omega arith)))
 
 pub starts-with-spec : {M : Type 1} → statement M
 starts-with-spec =

@@ -31,7 +31,14 @@ nothing-kept-requires : tie.Need-nothing-kept-requires Inv-loop μ-loop Inv-shee
 nothing-kept-requires c κs = search needs
 
 sheet-holds : tie.Need-sheet-holds Inv-loop μ-loop Inv-sheet μ-sheet
-sheet-holds c = (omega arith, refl, λ z. refl, outer-start (c .before .before .args .sheet .now) (c .nothing-kept .result) (c .nothing-kept .ensures), search needs)
+sheet-holds c = (
+  omega arith,
+  refl,
+  λ z. refl,
+  outer-start (c .before .before .args .sheet .now) (c .nothing-kept .result)
+      (c .nothing-kept .ensures),
+  search needs,
+)
 
 sub-line-end : tie.Need-sub-line-end Inv-loop μ-loop Inv-sheet μ-sheet
 sub-line-end c = c .before .sheet .inv .3 .reached .inside
@@ -46,16 +53,52 @@ line-end-requires : tie.Need-line-end-requires Inv-loop μ-loop Inv-sheet μ-she
 line-end-requires c κs = search needs
 
 add-end : tie.Need-add-end Inv-loop μ-loop Inv-sheet μ-sheet
-add-end c = omega (arith, (rw (rest (c .before .before .before .before .before .before .args .sheet .now) (c .before .before .before .sheet .at)) at (c .line-end .ensures)) .inside, length-drop (c .before .before .before .sheet .at) (c .before .before .before .before .before .before .args .sheet .now), c .before .before .before .sheet .inv .3 .reached .inside)
+add-end c = let args′ = c .before .before .before .before .before .before .args in
+    let sheet′ = c .before .before .before .sheet in
+    let line-end′ = c .line-end in
+    omega (
+      arith,
+      (rw (rest (args′ .sheet .now) (sheet′ .at)) at (line-end′ .ensures)) .inside,
+      length-drop (sheet′ .at)
+          (args′ .sheet .now),
+      sheet′ .inv .3 .reached .inside,
+    )
 
 sub-heading : tie.Need-sub-heading Inv-loop μ-loop Inv-sheet μ-sheet
-sub-heading c = omega (arith, (rw (rest (c .before .before .before .before .before .before .before .args .sheet .now) (c .before .before .before .before .sheet .at)) at (c .before .line-end .ensures)) .inside, length-drop (c .before .before .before .before .sheet .at) (c .before .before .before .before .before .before .before .args .sheet .now), c .before .before .before .before .sheet .inv .3 .reached .inside)
+sub-heading c = let args′ = c .before .before .before .before .before .before .before .args in
+    let sheet′ = c .before .before .before .before .sheet in
+    let line-end′ = c .before .line-end in
+    omega (
+      arith,
+      (rw (rest (args′ .sheet .now) (sheet′ .at)) at (line-end′ .ensures)) .inside,
+      length-drop (sheet′ .at)
+          (args′ .sheet .now),
+      sheet′ .inv .3 .reached .inside,
+    )
 
 part-heading-start : tie.Need-part-heading-start Inv-loop μ-loop Inv-sheet μ-sheet
-part-heading-start c = omega (arith, (rw (rest (c .before .before .before .before .before .before .before .args .sheet .now) (c .before .before .before .before .sheet .at)) at (c .before .line-end .ensures)) .inside, length-drop (c .before .before .before .before .sheet .at) (c .before .before .before .before .before .before .before .args .sheet .now), c .before .before .before .before .sheet .inv .3 .reached .inside)
+part-heading-start c = let args′ = c .before .before .before .before .before .before .before .args in
+    let sheet′ = c .before .before .before .before .sheet in
+    let line-end′ = c .before .line-end in
+    omega (
+      arith,
+      (rw (rest (args′ .sheet .now) (sheet′ .at)) at (line-end′ .ensures)) .inside,
+      length-drop (sheet′ .at)
+          (args′ .sheet .now),
+      sheet′ .inv .3 .reached .inside,
+    )
 
 part-heading-end : tie.Need-part-heading-end Inv-loop μ-loop Inv-sheet μ-sheet
-part-heading-end c = omega (arith, (rw (rest (c .before .before .before .before .before .before .before .args .sheet .now) (c .before .before .before .before .sheet .at)) at (c .before .line-end .ensures)) .inside, length-drop (c .before .before .before .before .sheet .at) (c .before .before .before .before .before .before .before .args .sheet .now), c .before .before .before .before .sheet .inv .3 .reached .inside)
+part-heading-end c = let args′ = c .before .before .before .before .before .before .before .args in
+    let sheet′ = c .before .before .before .before .sheet in
+    let line-end′ = c .before .line-end in
+    omega (
+      arith,
+      (rw (rest (args′ .sheet .now) (sheet′ .at)) at (line-end′ .ensures)) .inside,
+      length-drop (sheet′ .at)
+          (args′ .sheet .now),
+      sheet′ .inv .3 .reached .inside,
+    )
 
 heading-requires : tie.Need-heading-requires Inv-loop μ-loop Inv-sheet μ-sheet
 heading-requires c κs = (omega arith, c .before .before .before .before .before .sheet .inv .3 .few)
@@ -67,23 +110,50 @@ enum-told : tie.Need-enum-told Inv-loop μ-loop Inv-sheet μ-sheet
 enum-told c = search needs
 
 add-at : tie.Need-add-at Inv-loop μ-loop Inv-sheet μ-sheet
-add-at c = omega (arith, (rw (rest (c .before .before .before .before .before .before .before .before .before .before .before .before .before .args .sheet .now) (c .before .before .before .before .before .before .before .before .before .before .sheet .at)) at (c .before .before .before .before .before .before .before .line-end .ensures)) .inside, length-drop (c .before .before .before .before .before .before .before .before .before .before .sheet .at) (c .before .before .before .before .before .before .before .before .before .before .before .before .before .args .sheet .now), c .before .before .before .before .before .before .before .before .before .before .sheet .inv .3 .reached .inside, c .before .before .before .before .before .before .if1 .left)
+add-at c = let args′ =
+    c .before .before .before .before .before .before .before .before .before .before .before .before .before .args in
+    let sheet′ = c .before .before .before .before .before .before .before .before .before .before .sheet in
+    let line-end′ = c .before .before .before .before .before .before .before .line-end in
+    let if1′ = c .before .before .before .before .before .before .if1 in
+    omega (
+      arith,
+      (rw (rest (args′ .sheet .now) (sheet′ .at)) at (line-end′ .ensures)) .inside,
+      length-drop (sheet′ .at)
+          (args′ .sheet .now),
+      sheet′ .inv .3 .reached .inside,
+      if1′ .left,
+    )
 
 add-line : tie.Need-add-line Inv-loop μ-loop Inv-sheet μ-sheet
-add-line c = next-line _ (c .before .before .before .before .before .before .before .before .before .before .sheet .inv .3 .reached) (feed-inside (c .before .before .before .before .before .before .before .before .before .before .before .before .before .args .sheet .now) (c .before .before .before .before .before .before .before .before .before .before .sheet .at) (c .before .before .before .before .before .before .before .line-end .result) (c .before .before .before .before .before .before .before .before .before .before .sheet .inv .3 .reached .inside) (rw (rest (c .before .before .before .before .before .before .before .before .before .before .before .before .before .args .sheet .now) (c .before .before .before .before .before .before .before .before .before .before .sheet .at)) at (c .before .before .before .before .before .before .before .line-end .ensures)) (c .before .before .before .before .before .before .if1 .left)) (c .before .before .before .before .before .before .before .before .before .before .sheet .inv .4)
+add-line c = let sheet′ = c .before .before .before .before .before .before .before .before .before .before .sheet in
+    let args′ = c .before .before .before .before .before .before .before .before .before .before .before .before .before .args in
+    let line-end′ = c .before .before .before .before .before .before .before .line-end in
+    let if1′ = c .before .before .before .before .before .before .if1 in
+    next-line _ (sheet′ .inv .3 .reached) (feed-inside (args′ .sheet .now) (sheet′ .at) (line-end′ .result)
+    (sheet′ .inv .3 .reached .inside) (rw (rest (args′ .sheet .now) (sheet′ .at)) at (line-end′ .ensures)) (if1′ .left))
+    (sheet′ .inv .4)
 
 loop-holds : tie.Need-loop-holds Inv-loop μ-loop Inv-sheet μ-sheet
-loop-holds c = let u = (c .before .before .before .before .before .before .before .before .before .before .sheet) in (
-  omega arith,
-  omega arith,
-  u .inv .1,
-  outer-pass (c .before .before .before .before .before .before .before .before .before .before .before .before .before .args .sheet .now) (u .kept) (u .n) (u .section) (u .line) (u .at) (u .inv .3) (c .before .before .before .before .before .before .before .line-end .result) (c .before .before .c .given .0 .0) (c .if2 .n)
-      (rw (rest (c .before .before .before .before .before .before .before .before .before .before .before .before .before .args .sheet .now) (c .before .before .before .before .before .before .before .before .before .before .sheet .at)) at (c .before .before .before .before .before .before .before .line-end .ensures)) (c .before .before .before .before .before .before .if1 .left)
-      (subst (λ x. HeadingOf (take (u .at + c .before .before .before .before .before .before .before .line-end .result - u .at) (drop (u .at) (c .before .before .before .before .before .before .before .before .before .before .before .before .before .args .sheet .now))) (u .section) (u .n) x) (c .before .before .c .given .1) (c .before .before .before .before .heading .ensures))
-      (λ z. elim (c .if2 .came) [ inl w ↦ w .1 | inr w ↦ absurd (w .0 .left z) ])
-      (λ z. elim (c .if2 .came) [ inl w ↦ absurd (z (w .0 .taken)) | inr w ↦ w .1 ]) (omega arith) (u .inv .2),
-  u .inv .4,
-)
+loop-holds c = let sheet′ = c .before .before .before .before .before .before .before .before .before .before .sheet in
+    let args′ = c .before .before .before .before .before .before .before .before .before .before .before .before .before .args in
+    let line-end′ = c .before .before .before .before .before .before .before .line-end in
+    let c′ = c .before .before .c in
+    let if2′ = c .if2 in
+    let if1′ = c .before .before .before .before .before .before .if1 in
+    let heading′ = c .before .before .before .before .heading in
+    let u = sheet′ in (
+      omega arith,
+      omega arith,
+      u .inv .1,
+      outer-pass (args′ .sheet .now) (u .kept) (u .n) (u .section) (u .line) (u .at) (u .inv .3) (line-end′ .result) (c′ .given .0 .0)
+          (if2′ .n)
+          (rw (rest (args′ .sheet .now) (sheet′ .at)) at (line-end′ .ensures)) (if1′ .left)
+          (subst (λ x. HeadingOf (take (u .at + line-end′ .result - u .at) (drop (u .at) (args′ .sheet .now))) (u .section) (u .n) x)
+          (c′ .given .1) (heading′ .ensures))
+          (λ z. elim (if2′ .came) [ inl w ↦ w .1 | inr w ↦ absurd (w .0 .left z) ])
+          (λ z. elim (if2′ .came) [ inl w ↦ absurd (z (w .0 .taken)) | inr w ↦ w .1 ]) (omega arith) (u .inv .2),
+      u .inv .4,
+    )
 
 sub-line-end-2 : tie.Need-sub-line-end-2 Inv-loop μ-loop Inv-sheet μ-sheet
 sub-line-end-2 c = c .before .loop .inv .3 .reached .inside
@@ -98,25 +168,89 @@ line-end-requires-2 : tie.Need-line-end-requires-2 Inv-loop μ-loop Inv-sheet μ
 line-end-requires-2 c κs = search needs
 
 add-end-2 : tie.Need-add-end-2 Inv-loop μ-loop Inv-sheet μ-sheet
-add-end-2 c = omega (arith, (rw (rest (c .before .before .before .before .before .before .before .before .before .before .before .before .before .before .before .before .before .args .sheet .now) (c .before .before .before .loop .at)) at (c .line-end2 .ensures)) .inside, length-drop (c .before .before .before .loop .at) (c .before .before .before .before .before .before .before .before .before .before .before .before .before .before .before .before .before .args .sheet .now), c .before .before .before .loop .inv .3 .reached .inside)
+add-end-2 c = let args′ =
+    c .before .before .before .before .before .before .before .before .before .before .before .before .before .before .before .before .before .args
+    in
+    let loop′ = c .before .before .before .loop in
+    let line-end2′ = c .line-end2 in
+    omega (
+      arith,
+      (rw (rest (args′ .sheet .now) (loop′ .at)) at (line-end2′ .ensures)) .inside,
+      length-drop (loop′ .at)
+          (args′ .sheet .now),
+      loop′ .inv .3 .reached .inside,
+    )
 
 sub-keep : tie.Need-sub-keep Inv-loop μ-loop Inv-sheet μ-sheet
-sub-keep c = omega (arith, (rw (rest (c .before .before .before .before .before .before .before .before .before .before .before .before .before .before .before .before .before .before .args .sheet .now) (c .before .before .before .before .loop .at)) at (c .before .line-end2 .ensures)) .inside, length-drop (c .before .before .before .before .loop .at) (c .before .before .before .before .before .before .before .before .before .before .before .before .before .before .before .before .before .before .args .sheet .now), c .before .before .before .before .loop .inv .3 .reached .inside)
+sub-keep c = let args′ =
+    c .before .before .before .before .before .before .before .before .before .before .before .before .before .before .before .before .before .before .args
+    in
+    let loop′ = c .before .before .before .before .loop in
+    let line-end2′ = c .before .line-end2 in
+    omega (
+      arith,
+      (rw (rest (args′ .sheet .now) (loop′ .at)) at (line-end2′ .ensures)) .inside,
+      length-drop (loop′ .at)
+          (args′ .sheet .now),
+      loop′ .inv .3 .reached .inside,
+    )
 
 part-keep-start : tie.Need-part-keep-start Inv-loop μ-loop Inv-sheet μ-sheet
-part-keep-start c = omega (arith, (rw (rest (c .before .before .before .before .before .before .before .before .before .before .before .before .before .before .before .before .before .before .args .sheet .now) (c .before .before .before .before .loop .at)) at (c .before .line-end2 .ensures)) .inside, length-drop (c .before .before .before .before .loop .at) (c .before .before .before .before .before .before .before .before .before .before .before .before .before .before .before .before .before .before .args .sheet .now), c .before .before .before .before .loop .inv .3 .reached .inside)
+part-keep-start c = let args′ =
+    c .before .before .before .before .before .before .before .before .before .before .before .before .before .before .before .before .before .before .args
+    in
+    let loop′ = c .before .before .before .before .loop in
+    let line-end2′ = c .before .line-end2 in
+    omega (
+      arith,
+      (rw (rest (args′ .sheet .now) (loop′ .at)) at (line-end2′ .ensures)) .inside,
+      length-drop (loop′ .at)
+          (args′ .sheet .now),
+      loop′ .inv .3 .reached .inside,
+    )
 
 part-keep-end : tie.Need-part-keep-end Inv-loop μ-loop Inv-sheet μ-sheet
-part-keep-end c = omega (arith, (rw (rest (c .before .before .before .before .before .before .before .before .before .before .before .before .before .before .before .before .before .before .args .sheet .now) (c .before .before .before .before .loop .at)) at (c .before .line-end2 .ensures)) .inside, length-drop (c .before .before .before .before .loop .at) (c .before .before .before .before .before .before .before .before .before .before .before .before .before .before .before .before .before .before .args .sheet .now), c .before .before .before .before .loop .inv .3 .reached .inside)
+part-keep-end c = let args′ =
+    c .before .before .before .before .before .before .before .before .before .before .before .before .before .before .before .before .before .before .args
+    in
+    let loop′ = c .before .before .before .before .loop in
+    let line-end2′ = c .before .line-end2 in
+    omega (
+      arith,
+      (rw (rest (args′ .sheet .now) (loop′ .at)) at (line-end2′ .ensures)) .inside,
+      length-drop (loop′ .at)
+          (args′ .sheet .now),
+      loop′ .inv .3 .reached .inside,
+    )
 
 keep-requires : tie.Need-keep-requires Inv-loop μ-loop Inv-sheet μ-sheet
-keep-requires c κs = (omega arith, c .before .before .before .before .before .loop .inv .3 .few, inner-small (c .before .before .before .before .before .before .before .before .before .before .before .before .before .before .before .before .before .before .before .args .sheet .now) _ _ _ _ _ _ _ (c .before .before .before .before .before .loop .inv .3) (omega arith))
+keep-requires c κs = let loop′ = c .before .before .before .before .before .loop in
+    let args′ =
+    c .before .before .before .before .before .before .before .before .before .before .before .before .before .before .before .before .before .before .before .args
+    in
+    (omega arith, loop′ .inv .3 .few, inner-small (args′ .sheet .now) _ _ _ _ _ _ _ (loop′ .inv .3) (omega arith))
 
 add-at-2 : tie.Need-add-at-2 Inv-loop μ-loop Inv-sheet μ-sheet
-add-at-2 c = next-fits (c .before .before .before .before .before .before .before .before .before .before .before .before .before .before .before .before .before .before .before .before .before .before .args .sheet .now) (c .before .before .before .before .before .before .before .before .loop .at + c .before .before .before .before .before .line-end2 .result) (feed-inside (c .before .before .before .before .before .before .before .before .before .before .before .before .before .before .before .before .before .before .before .before .before .before .args .sheet .now) (c .before .before .before .before .before .before .before .before .loop .at) (c .before .before .before .before .before .line-end2 .result) (c .before .before .before .before .before .before .before .before .loop .inv .3 .reached .inside) (rw (rest (c .before .before .before .before .before .before .before .before .before .before .before .before .before .before .before .before .before .before .before .before .before .before .args .sheet .now) (c .before .before .before .before .before .before .before .before .loop .at)) at (c .before .before .before .before .before .line-end2 .ensures)) (c .before .before .before .before .if3 .left)) (c .before .before .before .before .before .before .before .before .loop .inv .4)
+add-at-2 c = let args′ =
+    c .before .before .before .before .before .before .before .before .before .before .before .before .before .before .before .before .before .before .before .before .before .before .args
+    in
+    let loop′ = c .before .before .before .before .before .before .before .before .loop in
+    let line-end2′ = c .before .before .before .before .before .line-end2 in
+    let if3′ = c .before .before .before .before .if3 in
+    next-fits (args′ .sheet .now) (loop′ .at + line-end2′ .result) (feed-inside (args′ .sheet .now) (loop′ .at) (line-end2′ .result)
+    (loop′ .inv .3 .reached .inside) (rw (rest (args′ .sheet .now) (loop′ .at)) at (line-end2′ .ensures)) (if3′ .left))
+    (loop′ .inv .4)
 
 add-line-2 : tie.Need-add-line-2 Inv-loop μ-loop Inv-sheet μ-sheet
-add-line-2 c = next-line _ (c .before .before .before .before .before .before .before .before .loop .inv .3 .reached) (feed-inside (c .before .before .before .before .before .before .before .before .before .before .before .before .before .before .before .before .before .before .before .before .before .before .args .sheet .now) (c .before .before .before .before .before .before .before .before .loop .at) (c .before .before .before .before .before .line-end2 .result) (c .before .before .before .before .before .before .before .before .loop .inv .3 .reached .inside) (rw (rest (c .before .before .before .before .before .before .before .before .before .before .before .before .before .before .before .before .before .before .before .before .before .before .args .sheet .now) (c .before .before .before .before .before .before .before .before .loop .at)) at (c .before .before .before .before .before .line-end2 .ensures)) (c .before .before .before .before .if3 .left)) (c .before .before .before .before .before .before .before .before .loop .inv .4)
+add-line-2 c = let loop′ = c .before .before .before .before .before .before .before .before .loop in
+    let args′ =
+    c .before .before .before .before .before .before .before .before .before .before .before .before .before .before .before .before .before .before .before .before .before .before .args
+    in
+    let line-end2′ = c .before .before .before .before .before .line-end2 in
+    let if3′ = c .before .before .before .before .if3 in
+    next-line _ (loop′ .inv .3 .reached) (feed-inside (args′ .sheet .now) (loop′ .at) (line-end2′ .result)
+    (loop′ .inv .3 .reached .inside) (rw (rest (args′ .sheet .now) (loop′ .at)) at (line-end2′ .ensures)) (if3′ .left))
+    (loop′ .inv .4)
 
 add-k : tie.Need-add-k Inv-loop μ-loop Inv-sheet μ-sheet
 add-k c = search needs
@@ -125,15 +259,30 @@ loop-less : tie.Need-loop-less Inv-loop μ-loop Inv-sheet μ-sheet
 loop-less c = search needs
 
 loop-again : tie.Need-loop-again Inv-loop μ-loop Inv-sheet μ-sheet
-loop-again c = let u = (c .before .before .before .before .before .before .before .before .loop) in
-    let h : u .k < c .before .before .before .before .before .before .before .before .before .before .before .c .given .0 .0 = omega arith in (
+loop-again c = let loop′ = c .before .before .before .before .before .before .before .before .loop in
+    let c′ = c .before .before .before .before .before .before .before .before .before .before .before .c in
+    let args′ =
+    c .before .before .before .before .before .before .before .before .before .before .before .before .before .before .before .before .before .before .before .before .before .before .args
+    in
+    let if2′ = c .before .before .before .before .before .before .before .before .before .if2 in
+    let sheet′ =
+    c .before .before .before .before .before .before .before .before .before .before .before .before .before .before .before .before .before .before .before .sheet
+    in
+    let line-end2′ = c .before .before .before .before .before .line-end2 in
+    let keep′ = c .before .before .keep in
+    let if3′ = c .before .before .before .before .if3 in
+    let if4′ = c .if4 in
+    let u = loop′ in
+    let h : u .k < c′ .given .0 .0 = omega arith in (
       omega arith,
       omega arith,
       u .inv .2,
-      inner-pass (c .before .before .before .before .before .before .before .before .before .before .before .before .before .before .before .before .before .before .before .before .before .before .args .sheet .now) (u .kept) (c .before .before .before .before .before .before .before .before .before .if2 .n) (c .before .before .before .before .before .before .before .before .before .before .before .before .before .before .before .before .before .before .before .sheet .section) (u .line) (u .at) (c .before .before .before .before .before .before .before .before .before .before .before .c .given .0 .0) (u .k) (u .inv .3) h (c .before .before .before .before .before .line-end2 .result) (c .before .before .keep .result)
-          (rw (rest (c .before .before .before .before .before .before .before .before .before .before .before .before .before .before .before .before .before .before .before .before .before .before .args .sheet .now) (c .before .before .before .before .before .before .before .before .loop .at)) at (c .before .before .before .before .before .line-end2 .ensures)) (c .before .before .before .before .if3 .left) (omega arith)
-          (c .before .before .keep .ensures (u .inv .3 .st) _ (u .inv .3 .held) (inner-due (c .before .before .before .before .before .before .before .before .before .before .before .before .before .before .before .before .before .before .before .before .before .before .args .sheet .now) (u .kept) (c .before .before .before .before .before .before .before .before .before .if2 .n) (c .before .before .before .before .before .before .before .before .before .before .before .before .before .before .before .before .before .before .before .sheet .section) (u .line) (u .at) (c .before .before .before .before .before .before .before .before .before .before .before .c .given .0 .0) (u .k) (u .inv .3) h))
-          (not-false _ (c .if4 .left)),
+      inner-pass (args′ .sheet .now) (u .kept) (if2′ .n) (sheet′ .section) (u .line) (u .at) (c′ .given .0 .0) (u .k) (u .inv .3) h
+          (line-end2′ .result) (keep′ .result)
+          (rw (rest (args′ .sheet .now) (loop′ .at)) at (line-end2′ .ensures)) (if3′ .left) (omega arith)
+          (keep′ .ensures (u .inv .3 .st) _ (u .inv .3 .held) (inner-due (args′ .sheet .now) (u .kept) (if2′ .n) (sheet′ .section)
+          (u .line) (u .at) (c′ .given .0 .0) (u .k) (u .inv .3) h))
+          (not-false _ (if4′ .left)),
       u .inv .4,
     )
 
@@ -144,43 +293,92 @@ sheet-less : tie.Need-sheet-less Inv-loop μ-loop Inv-sheet μ-sheet
 sheet-less c = search needs
 
 sheet-again : tie.Need-sheet-again Inv-loop μ-loop Inv-sheet μ-sheet
-sheet-again c = let u = (c .before .loop) in (
-  omega arith,
-  u .inv .2,
-  λ z. absurd (omega arith),
-  inner-last (c .before .before .before .before .before .before .before .before .before .before .before .before .before .before .before .args .sheet .now) (u .kept) (c .before .before .if2 .n) (c .before .before .before .before .before .before .before .before .before .before .before .before .sheet .section) (u .line) (u .at) (c .before .before .before .before .c .given .0 .0) (u .k) (u .inv .3) (omega arith) (omega arith) (omega arith),
-  u .inv .4,
-)
+sheet-again c = let loop′ = c .before .loop in
+    let args′ =
+    c .before .before .before .before .before .before .before .before .before .before .before .before .before .before .before .args
+    in
+    let if2′ = c .before .before .if2 in
+    let sheet′ = c .before .before .before .before .before .before .before .before .before .before .before .before .sheet in
+    let c′ = c .before .before .before .before .c in
+    let u = loop′ in (
+      omega arith,
+      u .inv .2,
+      λ z. absurd (omega arith),
+      inner-last (args′ .sheet .now) (u .kept) (if2′ .n) (sheet′ .section) (u .line) (u .at) (c′ .given .0 .0) (u .k) (u .inv .3)
+          (omega arith) (omega arith) (omega arith),
+      u .inv .4,
+    )
 
 returns : tie.Need-returns Inv-loop μ-loop Inv-sheet μ-sheet
 returns c = let u = (c .before .sheet) in
-    walk-ended (c .before .before .before .before .args .sheet .now) (u .kept) (u .n) (u .section) (u .line) (u .at) (u .wrong) (u .inv .1) (omega arith) (u .inv .3)
+    walk-ended (c .before .before .before .before .args .sheet .now) (u .kept) (u .n) (u .section) (u .line) (u .at) (u .wrong)
+    (u .inv .1) (omega arith) (u .inv .3)
 
 returns-2 : tie.Need-returns-2 Inv-loop μ-loop Inv-sheet μ-sheet
-returns-2 c = let u = (c .before .before .before .before .sheet) in
-    walk-stopped (c .before .before .before .before .before .before .before .args .sheet .now) _ (u .inv .3 .reached .line-some)
-    (outer-lack (c .before .before .before .before .before .before .before .args .sheet .now) (u .kept) (u .n) (u .section) (u .line) (u .at) (u .inv .3) (c .before .line-end .result) (omega arith) (rw (rest (c .before .before .before .before .before .before .before .args .sheet .now) (c .before .before .before .before .sheet .at)) at (c .before .line-end .ensures)) (c .if1 .taken))
+returns-2 c = let sheet′ = c .before .before .before .before .sheet in
+    let args′ = c .before .before .before .before .before .before .before .args in
+    let line-end′ = c .before .line-end in
+    let if1′ = c .if1 in
+    let u = sheet′ in
+    walk-stopped (args′ .sheet .now) _ (u .inv .3 .reached .line-some)
+    (outer-lack (args′ .sheet .now) (u .kept) (u .n) (u .section) (u .line) (u .at) (u .inv .3) (line-end′ .result) (omega arith)
+    (rw (rest (args′ .sheet .now) (sheet′ .at)) at (line-end′ .ensures)) (if1′ .taken))
 
 returns-3 : tie.Need-returns-3 Inv-loop μ-loop Inv-sheet μ-sheet
-returns-3 c = let u = (c .before .before .before .before .before .before .before .before .sheet) in
-    walk-stopped (c .before .before .before .before .before .before .before .before .before .before .before .args .sheet .now) _ (u .inv .3 .reached .line-some)
-    (outer-halt (c .before .before .before .before .before .before .before .before .before .before .before .args .sheet .now) (u .kept) (u .n) (u .section) (u .line) (u .at) (u .inv .3) (c .before .before .before .before .before .line-end .result) (rw (rest (c .before .before .before .before .before .before .before .before .before .before .before .args .sheet .now) (c .before .before .before .before .before .before .before .before .sheet .at)) at (c .before .before .before .before .before .line-end .ensures)) (c .before .before .before .before .if1 .left)
-    (subst (λ x. HeadingOf (take (u .at + c .before .before .before .before .before .line-end .result - u .at) (drop (u .at) (c .before .before .before .before .before .before .before .before .before .before .before .args .sheet .now))) (u .section) (u .n) x) (is-no-count (c .before .before .heading .result) (c .before .match .keys2)) (c .before .before .heading .ensures)))
+returns-3 c = let sheet′ = c .before .before .before .before .before .before .before .before .sheet in
+    let args′ = c .before .before .before .before .before .before .before .before .before .before .before .args in
+    let line-end′ = c .before .before .before .before .before .line-end in
+    let if1′ = c .before .before .before .before .if1 in
+    let heading′ = c .before .before .heading in
+    let match′ = c .before .match in
+    let u = sheet′ in
+    walk-stopped (args′ .sheet .now) _ (u .inv .3 .reached .line-some)
+    (outer-halt (args′ .sheet .now) (u .kept) (u .n) (u .section) (u .line) (u .at) (u .inv .3) (line-end′ .result) (rw (rest
+    (args′ .sheet .now) (sheet′ .at)) at (line-end′ .ensures)) (if1′ .left)
+    (subst (λ x. HeadingOf (take (u .at + line-end′ .result - u .at) (drop (u .at) (args′ .sheet .now))) (u .section) (u .n) x)
+    (is-no-count (heading′ .result) (match′ .keys2)) (heading′ .ensures)))
 
 returns-4 : tie.Need-returns-4 Inv-loop μ-loop Inv-sheet μ-sheet
-returns-4 c = let u = (c .before .before .before .before .loop) in
-    let h : u .k < c .before .before .before .before .before .before .before .c .given .0 .0 = omega arith in
-    walk-stopped (c .before .before .before .before .before .before .before .before .before .before .before .before .before .before .before .before .before .before .args .sheet .now) _ (u .inv .3 .reached .line-some)
-    (inner-lack (c .before .before .before .before .before .before .before .before .before .before .before .before .before .before .before .before .before .before .args .sheet .now) (u .kept) (c .before .before .before .before .before .if2 .n) (c .before .before .before .before .before .before .before .before .before .before .before .before .before .before .before .sheet .section) (u .line) (u .at) (c .before .before .before .before .before .before .before .c .given .0 .0) (u .k) (u .inv .3) h (c .before .line-end2 .result) (rw (rest (c .before .before .before .before .before .before .before .before .before .before .before .before .before .before .before .before .before .before .args .sheet .now) (c .before .before .before .before .loop .at)) at (c .before .line-end2 .ensures)) (c .if3 .taken))
+returns-4 c = let loop′ = c .before .before .before .before .loop in
+    let c′ = c .before .before .before .before .before .before .before .c in
+    let args′ =
+    c .before .before .before .before .before .before .before .before .before .before .before .before .before .before .before .before .before .before .args
+    in
+    let if2′ = c .before .before .before .before .before .if2 in
+    let sheet′ =
+    c .before .before .before .before .before .before .before .before .before .before .before .before .before .before .before .sheet
+    in
+    let line-end2′ = c .before .line-end2 in
+    let if3′ = c .if3 in
+    let u = loop′ in
+    let h : u .k < c′ .given .0 .0 = omega arith in
+    walk-stopped (args′ .sheet .now) _ (u .inv .3 .reached .line-some)
+    (inner-lack (args′ .sheet .now) (u .kept) (if2′ .n) (sheet′ .section) (u .line) (u .at) (c′ .given .0 .0) (u .k) (u .inv .3) h
+    (line-end2′ .result) (rw (rest (args′ .sheet .now) (loop′ .at)) at (line-end2′ .ensures)) (if3′ .taken))
 
 returns-5 : tie.Need-returns-5 Inv-loop μ-loop Inv-sheet μ-sheet
-returns-5 c = let u = (c .before .before .before .before .before .before .before .before .loop) in
-    let h : u .k < c .before .before .before .before .before .before .before .before .before .before .before .c .given .0 .0 = omega arith in
-    walk-stopped (c .before .before .before .before .before .before .before .before .before .before .before .before .before .before .before .before .before .before .before .before .before .before .args .sheet .now) _ (u .inv .3 .reached .line-some)
-    (inner-halt (c .before .before .before .before .before .before .before .before .before .before .before .before .before .before .before .before .before .before .before .before .before .before .args .sheet .now) (u .kept) (c .before .before .before .before .before .before .before .before .before .if2 .n) (c .before .before .before .before .before .before .before .before .before .before .before .before .before .before .before .before .before .before .before .sheet .section) (u .line) (u .at) (c .before .before .before .before .before .before .before .before .before .before .before .c .given .0 .0) (u .k) (u .inv .3) h (c .before .before .before .before .before .line-end2 .result) (c .before .before .keep .result)
-    (rw (rest (c .before .before .before .before .before .before .before .before .before .before .before .before .before .before .before .before .before .before .before .before .before .before .args .sheet .now) (c .before .before .before .before .before .before .before .before .loop .at)) at (c .before .before .before .before .before .line-end2 .ensures)) (c .before .before .before .before .if3 .left)
-    (c .before .before .keep .ensures (u .inv .3 .st) _ (u .inv .3 .held) (inner-due (c .before .before .before .before .before .before .before .before .before .before .before .before .before .before .before .before .before .before .before .before .before .before .args .sheet .now) (u .kept) (c .before .before .before .before .before .before .before .before .before .if2 .n) (c .before .before .before .before .before .before .before .before .before .before .before .before .before .before .before .before .before .before .before .sheet .section) (u .line) (u .at) (c .before .before .before .before .before .before .before .before .before .before .before .c .given .0 .0) (u .k) (u .inv .3) h))
-    (not-true _ (c .if4 .taken)))
+returns-5 c = let loop′ = c .before .before .before .before .before .before .before .before .loop in
+    let c′ = c .before .before .before .before .before .before .before .before .before .before .before .c in
+    let args′ =
+    c .before .before .before .before .before .before .before .before .before .before .before .before .before .before .before .before .before .before .before .before .before .before .args
+    in
+    let if2′ = c .before .before .before .before .before .before .before .before .before .if2 in
+    let sheet′ =
+    c .before .before .before .before .before .before .before .before .before .before .before .before .before .before .before .before .before .before .before .sheet
+    in
+    let line-end2′ = c .before .before .before .before .before .line-end2 in
+    let keep′ = c .before .before .keep in
+    let if3′ = c .before .before .before .before .if3 in
+    let if4′ = c .if4 in
+    let u = loop′ in
+    let h : u .k < c′ .given .0 .0 = omega arith in
+    walk-stopped (args′ .sheet .now) _ (u .inv .3 .reached .line-some)
+    (inner-halt (args′ .sheet .now) (u .kept) (if2′ .n) (sheet′ .section) (u .line) (u .at) (c′ .given .0 .0) (u .k) (u .inv .3) h
+    (line-end2′ .result) (keep′ .result)
+    (rw (rest (args′ .sheet .now) (loop′ .at)) at (line-end2′ .ensures)) (if3′ .left)
+    (keep′ .ensures (u .inv .3 .st) _ (u .inv .3 .held) (inner-due (args′ .sheet .now) (u .kept) (if2′ .n) (sheet′ .section)
+    (u .line) (u .at) (c′ .given .0 .0) (u .k) (u .inv .3) h))
+    (not-true _ (if4′ .taken)))
 
 pub walk-spec : {M : Type 1} → statement M
 walk-spec =

@@ -2,7 +2,6 @@
 use borrow.Author.Needs.{needs}
 use native.Mathlib.Omega.{arith}
 use Rattle.reader.proofs.NumberLaws.{front-some, front-nothing, whole-short, whole-all, whole-nothing}
-use borrow.Author.Needs.{needs}
 use Rattle.reader.proofs.whole.Statement.{statement}
 use Rattle.reader.proofs.whole.Tie as tie
 
@@ -16,13 +15,26 @@ enum-known-front : tie.Need-enum-known-front
 enum-known-front c = search needs
 
 returns : tie.Need-returns
-returns c = whole-short (front-some (c .before .before .before .before .before .before .args .s .now) (c .before .before .before .before .before .before .args .limit) (c .before .before .before .before .number .result) _ _ (c .before .before .before .before .number .ensures) (c .before .before .front .given .1)) (c .if1 .taken)
+returns c = let args′ = c .before .before .before .before .before .before .args in
+    let number′ = c .before .before .before .before .number in
+    let front′ = c .before .before .front in
+    let if1′ = c .if1 in
+    whole-short (front-some (args′ .s .now) (args′ .limit) (number′ .result) _ _ (number′ .ensures) (front′ .given .1))
+    (if1′ .taken)
 
 returns-2 : tie.Need-returns-2
-returns-2 c = whole-nothing (c .before .before .before .before .args .s .now) (c .before .before .before .before .args .limit) (front-nothing (c .before .before .before .before .args .s .now) (c .before .before .before .before .args .limit) (c .before .before .number .result) (c .before .before .number .ensures) (c .before .match .keys1))
+returns-2 c = let args′ = c .before .before .before .before .args in
+    let number′ = c .before .before .number in
+    let match′ = c .before .match in
+    whole-nothing (args′ .s .now) (args′ .limit) (front-nothing (args′ .s .now) (args′ .limit) (number′ .result) (number′ .ensures)
+    (match′ .keys1))
 
 returns-3 : tie.Need-returns-3
-returns-3 c = whole-all (front-some (c .before .before .before .before .before .before .args .s .now) (c .before .before .before .before .before .before .args .limit) (c .before .before .before .before .number .result) _ _ (c .before .before .before .before .number .ensures) (c .before .before .front .given .1)) (c .if1 .left)
+returns-3 c = let args′ = c .before .before .before .before .before .before .args in
+    let number′ = c .before .before .before .before .number in
+    let front′ = c .before .before .front in
+    let if1′ = c .if1 in
+    whole-all (front-some (args′ .s .now) (args′ .limit) (number′ .result) _ _ (number′ .ensures) (front′ .given .1)) (if1′ .left)
 
 pub whole-spec : {M : Type 1} → statement M
 whole-spec =

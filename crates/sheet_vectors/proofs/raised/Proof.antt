@@ -1,7 +1,6 @@
 -- Assumes nothing.
 use borrow.Author.Needs.{needs}
 use Rattle.sheet_vectors.proofs.Shifted.{wide-fits, raised-fits, raised-nonneg}
-use borrow.Author.Needs.{needs}
 use Rattle.sheet_vectors.proofs.raised.Statement.{statement}
 use Rattle.sheet_vectors.proofs.raised.Tie as tie
 

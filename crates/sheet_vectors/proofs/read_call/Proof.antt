@@ -4,7 +4,6 @@ use native.Mathlib.Omega.{arith}
 use Prim.Native.Nat.{ℕ, _+_, _-_, _*_, _%_, _≤_, _<_}
 use mathlib.Core.Path.{_≡_, refl, sym, ap, _∙_}
 use lib.Seq.{length-take-le}
-use borrow.Author.Needs.{needs}
 use Rattle.sheet_vectors.proofs.read_call.Statement.{statement}
 use Rattle.sheet_vectors.proofs.read_call.Tie as tie
 

@@ -62,13 +62,24 @@ put-number-returns :
     (put-number-below t, put-number.Post)
     (put-number-at t)
     put-number.Post
-put-number-returns t c = number-one (c .before .before .args .v) (c .before .before .args .out .now) (c .if1 .taken) (omega (arith, c .before .before .pre .1, text-some (c .before .before .args .v)))
+put-number-returns t c = number-one (c .before .before .args .v) (c .before .before .args .out .now) (c .if1 .taken) (omega (
+  arith,
+  c .before .before .pre .1,
+  text-some (c .before .before .args .v),
+))
 
 put-number-put-number-requires : (t : ℕ) → put-number-lts.Need-put-number-requires (
   put-number-below t,
   put-number.Post,
 ) (put-number-at t) put-number.Post
-put-number-put-number-requires t c κs = (omega (arith, c .before .before .before .pre .0, c .before .if1 .left), omega (arith, c .before .before .before .pre .1, digits-more (c .before .before .before .args .v) (c .before .if1 .left)))
+put-number-put-number-requires t c κs = (
+  omega (arith, c .before .before .before .pre .0, c .before .if1 .left),
+  omega (
+    arith,
+    c .before .before .before .pre .1,
+    digits-more (c .before .before .before .args .v) (c .before .if1 .left),
+  ),
+)
 
 put-number-cast-out-2 : (t : ℕ) → put-number-lts.Need-cast-out-2 (
   put-number-below t,
@@ -86,15 +97,28 @@ put-number-slice-write-out-2 : (t : ℕ) → put-number-lts.Need-slice-write-out
   put-number-below t,
   put-number.Post,
 ) (put-number-at t) put-number.Post
-put-number-slice-write-out-2 t c = let e = c .before .before .put-number .ensures in
-    let h = c .before .before .before .before .before .before .pre .1 in
-    omega (arith, e .is-length, digits-more (c .before .before .before .before .before .before .args .v) (c .before .before .before .before .if1 .left), puts-length (text (c .before .before .before .before .before .before .args .v / 10)) (c .before .before .before .before .before .before .args .out .now) _ (c .before .before .put-number .result) e (omega (arith, digits-more (c .before .before .before .before .before .before .args .v) (c .before .before .before .before .if1 .left))))
+put-number-slice-write-out-2 t c = let put-number′ = c .before .before .put-number in
+    let pre′ = c .before .before .before .before .before .before .pre in
+    let args′ = c .before .before .before .before .before .before .args in
+    let if1′ = c .before .before .before .before .if1 in
+    let e = put-number′ .ensures in
+    let h = pre′ .1 in
+    omega (
+      arith,
+      e .is-length,
+      digits-more (args′ .v) (if1′ .left),
+      puts-length (text (args′ .v / 10)) (args′ .out .now) _
+          (put-number′ .result) e (omega (arith, digits-more (args′ .v) (if1′ .left))),
+    )
 
 put-number-add-result : (t : ℕ) → put-number-lts.Need-add-result (
   put-number-below t,
   put-number.Post,
 ) (put-number-at t) put-number.Post
-put-number-add-result t c = omega (arith, c .before .before .put-number .ensures .is-length, digits-more (c .before .before .before .before .before .before .args .v) (c .before .before .before .before .if1 .left), text-length (c .before .before .before .before .before .before .args .v / 10))
+put-number-add-result t c = let put-number′ = c .before .before .put-number in
+    let args′ = c .before .before .before .before .before .before .args in
+    let if1′ = c .before .before .before .before .if1 in
+    omega (arith, put-number′ .ensures .is-length, digits-more (args′ .v) (if1′ .left), text-length (args′ .v / 10))
 
 put-number-same-length-2 : (t : ℕ) → put-number-lts.Need-same-length-2 (
   put-number-below t,
@@ -106,7 +130,11 @@ put-number-returns-2 : (t : ℕ) → put-number-lts.Need-returns-2 (
   put-number-below t,
   put-number.Post,
 ) (put-number-at t) put-number.Post
-put-number-returns-2 t c = number-more (c .before .before .before .before .before .before .args .v) (c .before .before .before .before .before .before .args .out .now) _ (c .before .before .put-number .result) (c .before .before .before .before .if1 .left) (c .before .before .before .before .before .before .pre .1) (c .before .before .put-number .ensures)
+put-number-returns-2 t c = let args′ = c .before .before .before .before .before .before .args in
+    let put-number′ = c .before .before .put-number in
+    let if1′ = c .before .before .before .before .if1 in
+    let pre′ = c .before .before .before .before .before .before .pre in
+    number-more (args′ .v) (args′ .out .now) _ (put-number′ .result) (if1′ .left) (pre′ .1) (put-number′ .ensures)
 
 pub +put-number-spec : {M : Type 1} → statement M
 +put-number-spec = close μ-put-number λ t. put-number-lts.spec (

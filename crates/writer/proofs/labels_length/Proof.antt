@@ -42,10 +42,30 @@ label-length-requires : tie.Need-label-length-requires Inv-loop μ-loop
 label-length-requires c κs = search needs
 
 add-sum : tie.Need-add-sum Inv-loop μ-loop
-add-sum c = omega (arith, (c .label-length .ensures ∙ ap (λ x. length (labelOf x)) (part-slot (c .before .before .before .before .before .args .labels .now) (8 * c .before .before .before .loop .k) (8 * c .before .before .before .loop .k + 8) (c .before .before .before .loop .k) refl refl)), label-le (slot (c .before .before .before .before .before .args .labels .now) (c .before .before .before .loop .k)), slot-length (c .before .before .before .before .before .args .labels .now) (c .before .before .before .loop .k) (omega arith))
+add-sum c = let label-length′ = c .label-length in
+    let args′ = c .before .before .before .before .before .args in
+    let loop′ = c .before .before .before .loop in
+    omega (
+      arith,
+      (label-length′ .ensures ∙ ap (λ x. length (labelOf x)) (part-slot (args′ .labels .now) (8 * loop′ .k) (8 *
+          loop′ .k + 8) (loop′ .k) refl refl)),
+      label-le (slot (args′ .labels .now) (loop′ .k)),
+      slot-length (args′ .labels .now)
+          (loop′ .k) (omega arith),
+    )
 
 add-sum-2 : tie.Need-add-sum-2 Inv-loop μ-loop
-add-sum-2 c = omega (arith, (c .label-length .ensures ∙ ap (λ x. length (labelOf x)) (part-slot (c .before .before .before .before .before .args .labels .now) (8 * c .before .before .before .loop .k) (8 * c .before .before .before .loop .k + 8) (c .before .before .before .loop .k) refl refl)), label-le (slot (c .before .before .before .before .before .args .labels .now) (c .before .before .before .loop .k)), slot-length (c .before .before .before .before .before .args .labels .now) (c .before .before .before .loop .k) (omega arith))
+add-sum-2 c = let label-length′ = c .label-length in
+    let args′ = c .before .before .before .before .before .args in
+    let loop′ = c .before .before .before .loop in
+    omega (
+      arith,
+      (label-length′ .ensures ∙ ap (λ x. length (labelOf x)) (part-slot (args′ .labels .now) (8 * loop′ .k) (8 *
+          loop′ .k + 8) (loop′ .k) refl refl)),
+      label-le (slot (args′ .labels .now) (loop′ .k)),
+      slot-length (args′ .labels .now)
+          (loop′ .k) (omega arith),
+    )
 
 add-k : tie.Need-add-k Inv-loop μ-loop
 add-k c = search needs
@@ -54,20 +74,44 @@ loop-less : tie.Need-loop-less Inv-loop μ-loop
 loop-less c = search needs
 
 loop-again : tie.Need-loop-again Inv-loop μ-loop
-loop-again c = let l = (c .before .before .before .loop) in
-    let b = c .before .before .before .before .before .args .labels .now in
-    let q : length (labelOf (slot b (l .k))) ≤ 8 = omega (arith, label-le (slot (c .before .before .before .before .before .args .labels .now) (c .before .before .before .loop .k)), slot-length (c .before .before .before .before .before .args .labels .now) (c .before .before .before .loop .k) (omega arith)) in (
+loop-again c = let loop′ = c .before .before .before .loop in
+    let args′ = c .before .before .before .before .before .args in
+    let label-length′ = c .label-length in
+    let l = loop′ in
+    let b = args′ .labels .now in
+    let q : length (labelOf (slot b (l .k))) ≤ 8 = omega (
+      arith,
+      label-le (slot (args′ .labels .now) (loop′ .k)),
+      slot-length
+          (args′ .labels .now) (loop′ .k) (omega arith),
+    ) in (
       omega arith,
       l .inv .1,
       l .inv .2,
-      omega (arith, (c .label-length .ensures ∙ ap (λ x. length (labelOf x)) (part-slot (c .before .before .before .before .before .args .labels .now) (8 * c .before .before .before .loop .k) (8 * c .before .before .before .loop .k + 8) (c .before .before .before .loop .k) refl refl)), l .inv .3, ap length (label-line-next (c .before .before .before .loop .k) (c .before .before .before .before .before .args .labels .now)), length-append (labelLines (labelsOf (l .k) b)) (ended (labelOf (slot b (l .k)))), line-length (labelOf (slot b (l .k)))),
-      omega (arith, (c .label-length .ensures ∙ ap (λ x. length (labelOf x)) (part-slot (c .before .before .before .before .before .args .labels .now) (8 * c .before .before .before .loop .k) (8 * c .before .before .before .loop .k + 8) (c .before .before .before .loop .k) refl refl)), l .inv .4),
+      omega (
+        arith,
+        (label-length′ .ensures ∙ ap (λ x. length (labelOf x)) (part-slot (args′ .labels .now) (8 * loop′ .k) (8 *
+            loop′ .k + 8) (loop′ .k) refl refl)),
+        l .inv .3,
+        ap length (label-line-next (loop′ .k) (args′ .labels .now)),
+        length-append
+            (labelLines (labelsOf (l .k) b)) (ended (labelOf (slot b (l .k)))),
+        line-length (labelOf (slot b (l .k))),
+      ),
+      omega (
+        arith,
+        (label-length′ .ensures ∙ ap (λ x. length (labelOf x)) (part-slot (args′ .labels .now) (8 * loop′ .k) (8 *
+            loop′ .k + 8) (loop′ .k) refl refl)),
+        l .inv .4,
+      ),
     )
 
 returns : tie.Need-returns Inv-loop μ-loop
-returns c = let l = (c .before .loop) in
-    let e : l .k ≡ c .before .before .before .args .n = omega arith in
-    (l .inv .3 ∙ ap (λ x. length (labelLines (labelsOf x (c .before .before .before .args .labels .now)))) e, omega (arith, l .inv .4))
+returns c = let loop′ = c .before .loop in
+    let args′ = c .before .before .before .args in
+    let l = loop′ in
+    let e : l .k ≡ args′ .n = omega arith in
+    (l .inv .3 ∙ ap (λ x. length (labelLines (labelsOf x (args′ .labels .now)))) e, omega (arith, l .inv .4))
 
 pub labels-length-spec : {M : Type 1} → statement M
 labels-length-spec =

@@ -40,13 +40,19 @@ slot-stands-requires : tie.Need-slot-stands-requires Inv-loop μ-loop
 slot-stands-requires c κs = search needs
 
 returns : tie.Need-returns Inv-loop μ-loop
-returns c = tells-no (λ b. c .before .slot-stands .ensures .fails (not-true _ (c .if1 .taken)) (subst⁻¹ (λ x. SlotStands x) (part-slot (c .before .before .before .before .before .before .args .labels .now) (8 * c .before .before .before .before .loop .k) (8 * c .before .before .before .before .loop .k + 8) (c .before .before .before .before .loop .k) refl refl) (b .forms (c .before .before .before .before .loop .k) (omega arith))))
+returns c = let slot-stands′ = c .before .slot-stands in
+    let if1′ = c .if1 in
+    let args′ = c .before .before .before .before .before .before .args in
+    let loop′ = c .before .before .before .before .loop in
+    tells-no (λ b. slot-stands′ .ensures .fails (not-true _ (if1′ .taken)) (subst⁻¹ (λ x. SlotStands x) (part-slot
+    (args′ .labels .now) (8 * loop′ .k) (8 * loop′ .k + 8) (loop′ .k) refl refl) (b .forms (loop′ .k) (omega arith))))
 
 repeated-requires : tie.Need-repeated-requires Inv-loop μ-loop
 repeated-requires c κs = search needs
 
 returns-2 : tie.Need-returns-2 Inv-loop μ-loop
-returns-2 c = tells-no (λ b. let r = c .before .repeated .ensures .holds (c .if2 .taken) in b .apart (r .earlier) (c .before .before .before .before .before .before .loop .k) (r .before) (omega arith) (r .alike))
+returns-2 c = tells-no (λ b. let r = c .before .repeated .ensures .holds (c .if2 .taken) in b .apart (r .earlier)
+    (c .before .before .before .before .before .before .loop .k) (r .before) (omega arith) (r .alike))
 
 add-k : tie.Need-add-k Inv-loop μ-loop
 add-k c = search needs
@@ -55,12 +61,19 @@ loop-less : tie.Need-loop-less Inv-loop μ-loop
 loop-less c = search needs
 
 loop-again : tie.Need-loop-again Inv-loop μ-loop
-loop-again c = let l = (c .before .before .before .before .before .before .loop) in (
-  omega arith,
-  l .inv .1,
-  buffer-more (l .k) (c .before .before .before .before .before .before .before .before .args .labels .now) (omega arith) (l .inv .2) (subst (λ x. SlotStands x) (part-slot (c .before .before .before .before .before .before .before .before .args .labels .now) (8 * c .before .before .before .before .before .before .loop .k) (8 * c .before .before .before .before .before .before .loop .k + 8) (c .before .before .before .before .before .before .loop .k) refl refl) (c .before .before .before .slot-stands .ensures .holds (not-false _ (c .before .before .if1 .left))))
-      (c .before .repeated .ensures .fails (c .if2 .left)),
-)
+loop-again c = let loop′ = c .before .before .before .before .before .before .loop in
+    let args′ = c .before .before .before .before .before .before .before .before .args in
+    let slot-stands′ = c .before .before .before .slot-stands in
+    let if1′ = c .before .before .if1 in
+    let repeated′ = c .before .repeated in
+    let if2′ = c .if2 in
+    let l = loop′ in (
+      omega arith,
+      l .inv .1,
+      buffer-more (l .k) (args′ .labels .now) (omega arith) (l .inv .2) (subst (λ x. SlotStands x) (part-slot (args′ .labels .now) (8
+          * loop′ .k) (8 * loop′ .k + 8) (loop′ .k) refl refl) (slot-stands′ .ensures .holds (not-false _ (if1′ .left))))
+          (repeated′ .ensures .fails (if2′ .left)),
+    )
 
 returns-3 : tie.Need-returns-3 Inv-loop μ-loop
 returns-3 c = let e : c .before .loop .k ≡ c .before .before .before .args .n = omega arith in

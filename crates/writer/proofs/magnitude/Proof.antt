@@ -5,21 +5,43 @@ use Prim.Native.Nat.{ℕ, _+_, _-_, _*_, _≤_, _<_}
 use mathlib.Core.Path.{_≡_, refl, sym, ap, subst, _∙_}
 use Rattle.writer.proofs.OrderLaws.{size-low, minus-fits, minus-is, plus-is, nonneg-plus}
 use mir.Facts.{toZ-ofZ}
-use borrow.Author.Needs.{needs}
 use Rattle.writer.proofs.magnitude.Statement.{statement}
 use Rattle.writer.proofs.magnitude.Tie as tie
 
 sub-result : tie.Need-sub-result
-sub-result c = rw (toZ-ofZ (c .before .fits .v)) (minus-fits (c .before .args .v) (c .before .pre) (simp (toZ-ofZ (c .before .fits .v)) at (c .if1 .taken)))
+sub-result c = rw (toZ-ofZ (c .before .fits .v)) (minus-fits (c .before .args .v) (c .before .pre) (simp (toZ-ofZ
+    (c .before .fits .v)) at (c .if1 .taken)))
 
 cast-result : tie.Need-cast-result
-cast-result c = rw (toZ-ofZ (c .before .fits .v), toZ-ofZ (minus-fits (c .before .args .v) (c .before .pre) (simp (toZ-ofZ (c .before .fits .v)) at (c .if1 .taken))), minus-is (c .before .args .v) (simp (toZ-ofZ (c .before .fits .v)) at (c .if1 .taken))) (tt, omega (arith, size-low (c .before .args .v) (c .before .pre)))
+cast-result c = let fits′ = c .before .fits in
+    let args′ = c .before .args in
+    let pre′ = c .before .pre in
+    let if1′ = c .if1 in
+    rw (
+      toZ-ofZ (fits′ .v),
+      toZ-ofZ (minus-fits (args′ .v) pre′ (simp (toZ-ofZ (fits′ .v)) at (if1′ .taken))),
+      minus-is (args′ .v)
+          (simp (toZ-ofZ (fits′ .v)) at (if1′ .taken)),
+    ) (tt, omega (arith, size-low (args′ .v) pre′))
 
 returns : tie.Need-returns
-returns c = rw (toZ-ofZ (c .before .fits .v), toZ-ofZ (minus-fits (c .before .args .v) (c .before .pre) (simp (toZ-ofZ (c .before .fits .v)) at (c .if1 .taken))), minus-is (c .before .args .v) (simp (toZ-ofZ (c .before .fits .v)) at (c .if1 .taken)))
+returns c = let fits′ = c .before .fits in
+    let args′ = c .before .args in
+    let pre′ = c .before .pre in
+    let if1′ = c .if1 in
+    rw (
+      toZ-ofZ (fits′ .v),
+      toZ-ofZ (minus-fits (args′ .v) pre′ (simp (toZ-ofZ (fits′ .v)) at (if1′ .taken))),
+      minus-is (args′ .v)
+          (simp (toZ-ofZ (fits′ .v)) at (if1′ .taken)),
+    )
 
 cast-result-2 : tie.Need-cast-result-2
-cast-result-2 c = rw (toZ-ofZ (c .before .fits .v)) (nonneg-plus (c .before .args .v) (simp (toZ-ofZ (c .before .fits .v)) at (c .if1 .left)), omega (arith, size-low (c .before .args .v) (c .before .pre)))
+cast-result-2 c = rw (toZ-ofZ (c .before .fits .v)) (
+  nonneg-plus (c .before .args .v) (simp (toZ-ofZ (c .before .fits .v)) at
+      (c .if1 .left)),
+  omega (arith, size-low (c .before .args .v) (c .before .pre)),
+)
 
 returns-2 : tie.Need-returns-2
 returns-2 c = rw (toZ-ofZ (c .before .fits .v))

@@ -31,32 +31,70 @@ shared-slice-copy-out-order-length : tie.Need-shared-slice-copy-out-order-length
 shared-slice-copy-out-order-length c = search needs
 
 order-length-requires : tie.Need-order-length-requires Inv-loop μ-loop
-order-length-requires c κs = rw (back w16 (getD (c .before .before .before .args .table .now) (c .before .before .loop .p) (pos 0)) (c .order-length-arg .given)) (entry-tested (c .before .before .before .args .n) (c .before .before .before .args .table .now) (c .before .before .loop .p) (c .before .before .loop .inv .1) (omega arith))
+order-length-requires c κs = let args′ = c .before .before .before .args in
+    let loop′ = c .before .before .loop in
+    let order-length-arg′ = c .order-length-arg in
+    rw (back w16 (getD (args′ .table .now) (loop′ .p) (pos 0)) (order-length-arg′ .given)) (entry-tested (args′ .n)
+    (args′ .table .now) (loop′ .p) (loop′ .inv .1) (omega arith))
 
 add-sum : tie.Need-add-sum Inv-loop μ-loop
-add-sum c = omega (arith, (simp (back w16 (getD (c .before .before .before .before .args .table .now) (c .before .before .before .loop .p) (pos 0)) (c .before .order-length-arg .given)) at (c .order-length .ensures)) .1, c .before .before .before .loop .inv .3, square-few (c .before .before .before .before .args .n) (c .before .before .before .loop .inv .1 .few), c .before .before .before .loop .inv .1 .square)
+add-sum c = let args′ = c .before .before .before .before .args in
+    let loop′ = c .before .before .before .loop in
+    let order-length-arg′ = c .before .order-length-arg in
+    let order-length′ = c .order-length in
+    omega (
+      arith,
+      (simp (back w16 (getD (args′ .table .now) (loop′ .p) (pos 0)) (order-length-arg′ .given)) at
+          (order-length′ .ensures)) .1,
+      loop′ .inv .3,
+      square-few (args′ .n) (loop′ .inv .1 .few),
+      loop′ .inv .1 .square,
+    )
 
 add-p : tie.Need-add-p Inv-loop μ-loop
-add-p c = omega (arith, square-few (c .before .before .before .before .args .n) (c .before .before .before .loop .inv .1 .few), c .before .before .before .loop .inv .1 .square)
+add-p c = omega (
+  arith,
+  square-few (c .before .before .before .before .args .n) (c .before .before .before .loop .inv .1 .few),
+  c .before .before .before .loop .inv .1 .square,
+)
 
 loop-less : tie.Need-loop-less Inv-loop μ-loop
 loop-less c = search needs
 
 loop-again : tie.Need-loop-again Inv-loop μ-loop
-loop-again c = let l = (c .before .before .before .loop) in
-    let t = c .before .before .before .before .args .table .now in (
+loop-again c = let loop′ = c .before .before .before .loop in
+    let args′ = c .before .before .before .before .args in
+    let order-length-arg′ = c .before .order-length-arg in
+    let order-length′ = c .order-length in
+    let l = loop′ in
+    let t = args′ .table .now in (
       omega arith,
       l .inv .1,
-      omega (arith, (simp (back w16 (getD (c .before .before .before .before .args .table .now) (c .before .before .before .loop .p) (pos 0)) (c .before .order-length-arg .given)) at (c .order-length .ensures)) .0, l .inv .2, ap length (order-lines-next t (l .p) (omega arith) (c .before .before .before .before .args .n)), length-append (orderLines (c .before .before .before .before .args .n) 0 (take (l .p) t)) (orderLine (c .before .before .before .before .args .n) (l .p) (getD t (l .p) (pos 0)))),
-      omega (arith, (simp (back w16 (getD (c .before .before .before .before .args .table .now) (c .before .before .before .loop .p) (pos 0)) (c .before .order-length-arg .given)) at (c .order-length .ensures)) .1, l .inv .3),
+      omega (
+        arith,
+        (simp (back w16 (getD (args′ .table .now) (loop′ .p) (pos 0)) (order-length-arg′ .given)) at
+            (order-length′ .ensures)) .0,
+        l .inv .2,
+        ap length (order-lines-next t (l .p) (omega arith) (args′ .n)),
+        length-append
+            (orderLines (args′ .n) 0 (take (l .p) t)) (orderLine (args′ .n) (l .p) (getD t (l .p) (pos 0))),
+      ),
+      omega (
+        arith,
+        (simp (back w16 (getD (args′ .table .now) (loop′ .p) (pos 0)) (order-length-arg′ .given)) at
+            (order-length′ .ensures)) .1,
+        l .inv .3,
+      ),
     )
 
 returns : tie.Need-returns Inv-loop μ-loop
-returns c = let l = (c .before .loop) in
-    let t = c .before .before .args .table .now in
+returns c = let loop′ = c .before .loop in
+    let args′ = c .before .before .args in
+    let l = loop′ in
+    let t = args′ .table .now in
     let e : l .p ≡ length t = omega arith in (
-      l .inv .2 ∙ ap (λ x. length (orderLines (c .before .before .args .n) 0 x)) (ap (λ i. take i t) e ∙ take-length t),
-      omega (arith, l .inv .3, square-few (c .before .before .args .n) (l .inv .1 .few), l .inv .1 .square),
+      l .inv .2 ∙ ap (λ x. length (orderLines (args′ .n) 0 x)) (ap (λ i. take i t) e ∙ take-length t),
+      omega (arith, l .inv .3, square-few (args′ .n) (l .inv .1 .few), l .inv .1 .square),
     )
 
 pub orders-length-spec : {M : Type 1} → statement M

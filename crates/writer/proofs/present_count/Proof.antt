@@ -41,14 +41,19 @@ loop-less : tie.Need-loop-less Inv-loop μ-loop
 loop-less c = search needs
 
 loop-again : tie.Need-loop-again Inv-loop μ-loop
-loop-again c = let l = (c .before .before .before .loop) in
-    let t = c .before .before .before .before .args .table .now in
+loop-again c = let loop′ = c .before .before .before .loop in
+    let args′ = c .before .before .before .before .args in
+    let if12′ = c .before .if12 in
+    let if1′ = c .if1 in
+    let l = loop′ in
+    let t = args′ .table .now in
     let g : l .p < length t = omega arith in
-    let f : SFits w16 (getD t (l .p) (pos 0)) = record { sfits = c .before .if12 .given } in
-    elim (c .if1 .came) [
+    let f : SFits w16 (getD t (l .p) (pos 0)) = record { sfits = if12′ .given } in
+    elim (if1′ .came) [
       | inl w ↦ (
         omega arith,
-        w .1 ∙ ap (λ x. x + 1) (l .inv .1) ∙ sym (count-present-next t (l .p) g (absent-bits-not (getD t (l .p) (pos 0)) (w .0 .taken))),
+        w .1 ∙ ap (λ x. x + 1) (l .inv .1) ∙ sym (count-present-next t (l .p) g (absent-bits-not (getD t (l .p) (pos 0))
+            (w .0 .taken))),
         omega (arith, w .1, l .inv .2),
       )
       | inr w ↦ (

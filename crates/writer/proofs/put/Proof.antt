@@ -32,25 +32,30 @@ loop-less : tie.Need-loop-less Inv-loop μ-loop
 loop-less c = search needs
 
 loop-again : tie.Need-loop-again Inv-loop μ-loop
-loop-again c = let l = (c .before .before .loop) in (
-  omega arith,
-  l .inv .1,
-  simp length-set (l .inv .2),
-  ap (λ x. set x (l .i) (getD (c .before .before .before .args .text .now) (l .i) 0)) (l .inv .3) ∙ copy-next (c .before .before .before .args .text .now) (c .before .before .before .args .out .now) (l .i) 0 (omega arith) (omega arith),
-)
+loop-again c = let loop′ = c .before .before .loop in
+    let args′ = c .before .before .before .args in
+    let l = loop′ in (
+      omega arith,
+      l .inv .1,
+      simp length-set (l .inv .2),
+      ap (λ x. set x (l .i) (getD (args′ .text .now) (l .i) 0)) (l .inv .3) ∙ copy-next (args′ .text .now) (args′ .out .now) (l .i) 0
+          (omega arith) (omega arith),
+    )
 
 same-length : tie.Need-same-length Inv-loop μ-loop
 same-length c = c .before .loop .inv .2
 
 returns : tie.Need-returns Inv-loop μ-loop
-returns c = let l = (c .before .loop) in
-    let e : l .i ≡ length (c .before .before .args .text .now) = omega arith in
+returns c = let loop′ = c .before .loop in
+    let args′ = c .before .before .args in
+    let l = loop′ in
+    let e : l .i ≡ length (args′ .text .now) = omega arith in
     record {
       is-length = e;
       is =
           l .inv .3
-          ∙ ap (λ x. take x (c .before .before .args .text .now) ++ drop x (c .before .before .args .out .now)) e
-          ∙ ap (λ x. x ++ drop (length (c .before .before .args .text .now)) (c .before .before .args .out .now)) (take-length (c .before .before .args .text .now));
+          ∙ ap (λ x. take x (args′ .text .now) ++ drop x (args′ .out .now)) e
+          ∙ ap (λ x. x ++ drop (length (args′ .text .now)) (args′ .out .now)) (take-length (args′ .text .now));
     }
 
 pub put-spec : {M : Type 1} → statement M

@@ -40,21 +40,52 @@ part-put-label-end : tie.Need-part-put-label-end Inv-loop μ-loop
 part-put-label-end c = search needs
 
 sub-put-label-2 : tie.Need-sub-put-label-2 Inv-loop μ-loop
-sub-put-label-2 c = omega (arith, c .before .before .loop .inv .4 .is-length, lines-mono (c .before .before .loop .k) (c .before .before .before .before .before .args .n) (c .before .before .before .before .before .args .labels .now) (omega arith))
+sub-put-label-2 c = let loop′ = c .before .before .loop in
+    let args′ = c .before .before .before .before .before .args in
+    omega (arith, loop′ .inv .4 .is-length, lines-mono (loop′ .k) (args′ .n) (args′ .labels .now) (omega arith))
 
 part-put-label-start-2 : tie.Need-part-put-label-start-2 Inv-loop μ-loop
-part-put-label-start-2 c = omega (arith, c .before .before .loop .inv .4 .is-length, lines-mono (c .before .before .loop .k) (c .before .before .before .before .before .args .n) (c .before .before .before .before .before .args .labels .now) (omega arith))
+part-put-label-start-2 c = let loop′ = c .before .before .loop in
+    let args′ = c .before .before .before .before .before .args in
+    omega (arith, loop′ .inv .4 .is-length, lines-mono (loop′ .k) (args′ .n) (args′ .labels .now) (omega arith))
 
 part-put-label-end-2 : tie.Need-part-put-label-end-2 Inv-loop μ-loop
-part-put-label-end-2 c = omega (arith, c .before .before .loop .inv .4 .is-length, lines-mono (c .before .before .loop .k) (c .before .before .before .before .before .args .n) (c .before .before .before .before .before .args .labels .now) (omega arith))
+part-put-label-end-2 c = let loop′ = c .before .before .loop in
+    let args′ = c .before .before .before .before .before .args in
+    omega (arith, loop′ .inv .4 .is-length, lines-mono (loop′ .k) (args′ .n) (args′ .labels .now) (omega arith))
 
 put-label-requires : tie.Need-put-label-requires Inv-loop μ-loop
-put-label-requires c κs = rw (part-slot (c .before .before .before .before .before .before .args .labels .now) (8 * c .before .before .before .loop .k) (8 * c .before .before .before .loop .k + 8) (c .before .before .before .loop .k) refl refl) (left-room (labelLines (labelsOf (c .before .before .before .loop .k) (c .before .before .before .before .before .before .args .labels .now))) (c .before .before .before .before .before .before .args .out .now) (c .before .before .before .loop .out) (c .before .before .before .loop .at) (c .before .before .before .loop .inv .4) (ended (labelOf (slot (c .before .before .before .before .before .before .args .labels .now) (c .before .before .before .loop .k)))) _ refl (omega (arith, lines-mono (c .before .before .before .loop .k + 1) (c .before .before .before .before .before .before .args .n) (c .before .before .before .before .before .before .args .labels .now) (omega arith), ap length (label-line-next (c .before .before .before .loop .k) (c .before .before .before .before .before .before .args .labels .now)), length-append (labelLines (labelsOf (c .before .before .before .loop .k) (c .before .before .before .before .before .before .args .labels .now))) (ended (labelOf (slot (c .before .before .before .before .before .before .args .labels .now) (c .before .before .before .loop .k)))), c .before .before .before .loop .inv .2)))
+put-label-requires c κs = let args′ = c .before .before .before .before .before .before .args in
+    let loop′ = c .before .before .before .loop in
+    rw (part-slot (args′ .labels .now) (8 * loop′ .k) (8 * loop′ .k + 8) (loop′ .k) refl refl) (left-room (labelLines (labelsOf
+    (loop′ .k) (args′ .labels .now))) (args′ .out .now) (loop′ .out) (loop′ .at) (loop′ .inv .4) (ended (labelOf (slot
+    (args′ .labels .now) (loop′ .k)))) _ refl (omega (
+      arith,
+      lines-mono (loop′ .k + 1) (args′ .n) (args′ .labels .now) (omega
+          arith),
+      ap length (label-line-next (loop′ .k) (args′ .labels .now)),
+      length-append (labelLines (labelsOf (loop′ .k)
+          (args′ .labels .now))) (ended (labelOf (slot (args′ .labels .now) (loop′ .k)))),
+      loop′ .inv .2,
+    )))
 
 add-at : tie.Need-add-at Inv-loop μ-loop
-add-at c = let h : length (labelLines (labelsOf (c .before .before .before .before .before .before .loop .k) (c .before .before .before .before .before .before .before .before .before .args .labels .now))) + length (ended (labelOf (slot (c .before .before .before .before .before .before .before .before .before .args .labels .now) (c .before .before .before .before .before .before .loop .k)))) ≤ length (c .before .before .before .before .before .before .before .before .before .args .out .now) = omega (arith, lines-mono (c .before .before .before .before .before .before .loop .k + 1) (c .before .before .before .before .before .before .before .before .before .args .n) (c .before .before .before .before .before .before .before .before .before .args .labels .now) (omega arith), ap length (label-line-next (c .before .before .before .before .before .before .loop .k) (c .before .before .before .before .before .before .before .before .before .args .labels .now)), length-append (labelLines (labelsOf (c .before .before .before .before .before .before .loop .k) (c .before .before .before .before .before .before .before .before .before .args .labels .now))) (ended (labelOf (slot (c .before .before .before .before .before .before .before .before .before .args .labels .now) (c .before .before .before .before .before .before .loop .k)))), c .before .before .before .before .before .before .loop .inv .2) in
-    let q = (puts-same _ (ended (labelOf (slot (c .before .before .before .before .before .before .before .before .before .args .labels .now) (c .before .before .before .before .before .before .loop .k)))) _ _ _ (ap (λ x. ended (labelOf x)) (part-slot (c .before .before .before .before .before .before .before .before .before .args .labels .now) (8 * c .before .before .before .before .before .before .loop .k) (8 * c .before .before .before .before .before .before .loop .k + 8) (c .before .before .before .before .before .before .loop .k) refl refl)) (c .before .before .put-label .ensures)) in
-    omega (arith, c .before .before .before .before .before .before .loop .inv .4 .is-length, q .is-length, h)
+add-at c = let loop′ = c .before .before .before .before .before .before .loop in
+    let args′ = c .before .before .before .before .before .before .before .before .before .args in
+    let put-label′ = c .before .before .put-label in
+    let h : length (labelLines (labelsOf (loop′ .k) (args′ .labels .now))) + length (ended (labelOf (slot (args′ .labels .now)
+    (loop′ .k)))) ≤ length (args′ .out .now) = omega (
+      arith,
+      lines-mono (loop′ .k + 1) (args′ .n) (args′ .labels .now) (omega
+          arith),
+      ap length (label-line-next (loop′ .k) (args′ .labels .now)),
+      length-append (labelLines (labelsOf (loop′ .k)
+          (args′ .labels .now))) (ended (labelOf (slot (args′ .labels .now) (loop′ .k)))),
+      loop′ .inv .2,
+    ) in
+    let q = (puts-same _ (ended (labelOf (slot (args′ .labels .now) (loop′ .k)))) _ _ _ (ap (λ x. ended (labelOf x)) (part-slot
+    (args′ .labels .now) (8 * loop′ .k) (8 * loop′ .k + 8) (loop′ .k) refl refl)) (put-label′ .ensures)) in
+    omega (arith, loop′ .inv .4 .is-length, q .is-length, h)
 
 add-k : tie.Need-add-k Inv-loop μ-loop
 add-k c = search needs
@@ -63,18 +94,46 @@ loop-less : tie.Need-loop-less Inv-loop μ-loop
 loop-less c = search needs
 
 loop-again : tie.Need-loop-again Inv-loop μ-loop
-loop-again c = let l = (c .before .before .before .before .before .before .loop) in
-    let b = c .before .before .before .before .before .before .before .before .before .args .labels .now in
-    let p = puts-tail (labelLines (labelsOf (l .k) b)) (c .before .before .before .before .before .before .before .before .before .args .out .now) (l .out) (l .at) (l .inv .4) (ended (labelOf (slot b (l .k)))) _ (c .before .before .put-label .result) _ refl (puts-same _ (ended (labelOf (slot (c .before .before .before .before .before .before .before .before .before .args .labels .now) (c .before .before .before .before .before .before .loop .k)))) _ _ _ (ap (λ x. ended (labelOf x)) (part-slot (c .before .before .before .before .before .before .before .before .before .args .labels .now) (8 * c .before .before .before .before .before .before .loop .k) (8 * c .before .before .before .before .before .before .loop .k + 8) (c .before .before .before .before .before .before .loop .k) refl refl)) (c .before .before .put-label .ensures)) (omega (arith, lines-mono (c .before .before .before .before .before .before .loop .k + 1) (c .before .before .before .before .before .before .before .before .before .args .n) (c .before .before .before .before .before .before .before .before .before .args .labels .now) (omega arith), ap length (label-line-next (c .before .before .before .before .before .before .loop .k) (c .before .before .before .before .before .before .before .before .before .args .labels .now)), length-append (labelLines (labelsOf (c .before .before .before .before .before .before .loop .k) (c .before .before .before .before .before .before .before .before .before .args .labels .now))) (ended (labelOf (slot (c .before .before .before .before .before .before .before .before .before .args .labels .now) (c .before .before .before .before .before .before .loop .k)))), c .before .before .before .before .before .before .loop .inv .2)) in
-    let q = puts-same _ (labelLines (labelsOf (l .k + 1) b)) (c .before .before .before .before .before .before .before .before .before .args .out .now) _ _ (sym (label-line-next (c .before .before .before .before .before .before .loop .k) (c .before .before .before .before .before .before .before .before .before .args .labels .now))) p in
-    (omega arith, l .inv .1, l .inv .2, puts-length _ (c .before .before .before .before .before .before .before .before .before .args .out .now) _ _ q (omega (arith, lines-mono (l .k + 1) (c .before .before .before .before .before .before .before .before .before .args .n) b (omega arith), l .inv .2)), q)
+loop-again c = let loop′ = c .before .before .before .before .before .before .loop in
+    let args′ = c .before .before .before .before .before .before .before .before .before .args in
+    let put-label′ = c .before .before .put-label in
+    let l = loop′ in
+    let b = args′ .labels .now in
+    let p = puts-tail (labelLines (labelsOf (l .k) b)) (args′ .out .now) (l .out) (l .at) (l .inv .4) (ended (labelOf (slot b
+    (l .k)))) _ (put-label′ .result) _ refl (puts-same _ (ended (labelOf (slot (args′ .labels .now) (loop′ .k)))) _ _ _ (ap (λ x.
+    ended (labelOf x)) (part-slot (args′ .labels .now) (8 * loop′ .k) (8 * loop′ .k + 8) (loop′ .k) refl refl))
+    (put-label′ .ensures)) (omega (
+      arith,
+      lines-mono (loop′ .k + 1) (args′ .n) (args′ .labels .now) (omega arith),
+      ap length
+          (label-line-next (loop′ .k) (args′ .labels .now)),
+      length-append (labelLines (labelsOf (loop′ .k) (args′ .labels .now))) (ended
+          (labelOf (slot (args′ .labels .now) (loop′ .k)))),
+      loop′ .inv .2,
+    )) in
+    let q = puts-same _ (labelLines (labelsOf (l .k + 1) b)) (args′ .out .now) _ _ (sym (label-line-next (loop′ .k)
+    (args′ .labels .now))) p in (
+      omega arith,
+      l .inv .1,
+      l .inv .2,
+      puts-length _ (args′ .out .now) _ _ q (omega (
+        arith,
+        lines-mono (l .k + 1) (args′ .n) b
+            (omega arith),
+        l .inv .2,
+      )),
+      q,
+    )
 
 same-length : tie.Need-same-length Inv-loop μ-loop
 same-length c = c .before .loop .inv .3
 
 returns : tie.Need-returns Inv-loop μ-loop
-returns c = let e : c .before .loop .k ≡ c .before .before .before .before .args .n = omega arith in
-    puts-same _ (labelLines (labelsOf (c .before .before .before .before .args .n) (c .before .before .before .before .args .labels .now))) (c .before .before .before .before .args .out .now) (c .before .loop .out) (c .before .loop .at) (ap (λ x. labelLines (labelsOf x (c .before .before .before .before .args .labels .now))) e) (c .before .loop .inv .4)
+returns c = let loop′ = c .before .loop in
+    let args′ = c .before .before .before .before .args in
+    let e : loop′ .k ≡ args′ .n = omega arith in
+    puts-same _ (labelLines (labelsOf (args′ .n) (args′ .labels .now))) (args′ .out .now) (loop′ .out) (loop′ .at) (ap (λ x.
+    labelLines (labelsOf x (args′ .labels .now))) e) (loop′ .inv .4)
 
 pub put-labels-spec : {M : Type 1} → statement M
 put-labels-spec =

@@ -10,42 +10,124 @@ use mathlib.Core.List.{[], _∷_, _++_, append-assoc}
 use Rattle.orders.proofs.Entries.{present-bits}
 use Rattle.sheet.specs.Text.{text, signed, ended}
 use mir.Facts.{toZ-ofZ}
-use borrow.Author.Needs.{needs}
 use Rattle.writer.proofs.put_order.Statement.{statement}
 use Rattle.writer.proofs.put_order.Tie as tie
 
 returns : tie.Need-returns
-returns c = puts-same [] _ (c .before .before .args .out .now) _ 0 (sym (line-absent (c .before .before .args .n) (c .before .before .args .p) (c .before .before .args .v) (absent-bits-is (c .before .before .args .v) (c .before .before .fits .v) (c .if1 .taken)))) (puts-none (c .before .before .args .out .now))
+returns c = let args′ = c .before .before .args in
+    let fits′ = c .before .before .fits in
+    let if1′ = c .if1 in
+    puts-same [] _ (args′ .out .now) _ 0 (sym (line-absent (args′ .n) (args′ .p) (args′ .v) (absent-bits-is (args′ .v) (fits′ .v)
+    (if1′ .taken)))) (puts-none (args′ .out .now))
 
 div-put-count : tie.Need-div-put-count
 div-put-count c = omega (arith, c .before .before .pre .0 .some)
 
 add-put-count : tie.Need-add-put-count
-add-put-count c = omega (arith, row-few (c .before .before .args .n) (c .before .before .args .p) (c .before .before .pre .0 .few) (c .before .before .pre .0 .place))
+add-put-count c = omega (
+  arith,
+  row-few (c .before .before .args .n) (c .before .before .args .p) (c .before .before .pre .0 .few)
+      (c .before .before .pre .0 .place),
+)
 
 put-count-requires : tie.Need-put-count-requires
-put-count-requires c κs = first-room (text (c .before .before .before .args .p / c .before .before .before .args .n + 1) ++ 32 ∷ []) ((text (c .before .before .before .args .p % c .before .before .before .args .n + 1) ++ 32 ∷ []) ++ ended (signed (c .before .before .before .args .v))) (c .before .before .before .args .out .now) (rw (line-parts (c .before .before .before .args .p / c .before .before .before .args .n) (c .before .before .before .args .p % c .before .before .before .args .n) (c .before .before .before .args .v) ∙ sym (line-present (c .before .before .before .args .n) (c .before .before .before .args .p) (c .before .before .before .args .v) (absent-bits-not (c .before .before .before .args .v) (c .before .if1 .left)))) (c .before .before .before .pre .1))
+put-count-requires c κs = let args′ = c .before .before .before .args in
+    let if1′ = c .before .if1 in
+    let pre′ = c .before .before .before .pre in
+    first-room (text (args′ .p / args′ .n + 1) ++ 32 ∷ []) ((text (args′ .p % args′ .n + 1) ++ 32 ∷ []) ++ ended (signed
+    (args′ .v))) (args′ .out .now) (rw (line-parts (args′ .p / args′ .n) (args′ .p % args′ .n) (args′ .v) ∙ sym (line-present
+    (args′ .n) (args′ .p) (args′ .v) (absent-bits-not (args′ .v) (if1′ .left)))) (pre′ .1))
 
 sub-put-order-end : tie.Need-sub-put-order-end
-sub-put-order-end c = omega (arith, puts-inside (text (c .before .before .before .before .before .before .args .p / c .before .before .before .before .before .before .args .n + 1) ++ 32 ∷ []) (c .before .before .before .before .before .before .args .out .now) _ (c .before .before .put-count .result) (c .before .before .put-count .ensures) (first-room (text (c .before .before .before .before .before .before .args .p / c .before .before .before .before .before .before .args .n + 1) ++ 32 ∷ []) ((text (c .before .before .before .before .before .before .args .p % c .before .before .before .before .before .before .args .n + 1) ++ 32 ∷ []) ++ ended (signed (c .before .before .before .before .before .before .args .v))) (c .before .before .before .before .before .before .args .out .now) (rw (line-parts (c .before .before .before .before .before .before .args .p / c .before .before .before .before .before .before .args .n) (c .before .before .before .before .before .before .args .p % c .before .before .before .before .before .before .args .n) (c .before .before .before .before .before .before .args .v) ∙ sym (line-present (c .before .before .before .before .before .before .args .n) (c .before .before .before .before .before .before .args .p) (c .before .before .before .before .before .before .args .v) (absent-bits-not (c .before .before .before .before .before .before .args .v) (c .before .before .before .before .if1 .left)))) (c .before .before .before .before .before .before .pre .1))))
+sub-put-order-end c = let args′ = c .before .before .before .before .before .before .args in
+    let put-count′ = c .before .before .put-count in
+    let if1′ = c .before .before .before .before .if1 in
+    let pre′ = c .before .before .before .before .before .before .pre in
+    omega (
+      arith,
+      puts-inside (text (args′ .p / args′ .n + 1) ++ 32 ∷ []) (args′ .out .now) _ (put-count′ .result)
+          (put-count′ .ensures) (first-room (text (args′ .p / args′ .n + 1) ++ 32 ∷ []) ((text (args′ .p % args′ .n + 1) ++ 32 ∷ []) ++
+          ended (signed (args′ .v))) (args′ .out .now) (rw (line-parts (args′ .p / args′ .n) (args′ .p % args′ .n) (args′ .v) ∙ sym
+          (line-present (args′ .n) (args′ .p) (args′ .v) (absent-bits-not (args′ .v) (if1′ .left)))) (pre′ .1))),
+    )
 
 part-put-order-end-start : tie.Need-part-put-order-end-start
-part-put-order-end-start c = omega (arith, puts-inside (text (c .before .before .before .before .before .before .args .p / c .before .before .before .before .before .before .args .n + 1) ++ 32 ∷ []) (c .before .before .before .before .before .before .args .out .now) _ (c .before .before .put-count .result) (c .before .before .put-count .ensures) (first-room (text (c .before .before .before .before .before .before .args .p / c .before .before .before .before .before .before .args .n + 1) ++ 32 ∷ []) ((text (c .before .before .before .before .before .before .args .p % c .before .before .before .before .before .before .args .n + 1) ++ 32 ∷ []) ++ ended (signed (c .before .before .before .before .before .before .args .v))) (c .before .before .before .before .before .before .args .out .now) (rw (line-parts (c .before .before .before .before .before .before .args .p / c .before .before .before .before .before .before .args .n) (c .before .before .before .before .before .before .args .p % c .before .before .before .before .before .before .args .n) (c .before .before .before .before .before .before .args .v) ∙ sym (line-present (c .before .before .before .before .before .before .args .n) (c .before .before .before .before .before .before .args .p) (c .before .before .before .before .before .before .args .v) (absent-bits-not (c .before .before .before .before .before .before .args .v) (c .before .before .before .before .if1 .left)))) (c .before .before .before .before .before .before .pre .1))))
+part-put-order-end-start c = let args′ = c .before .before .before .before .before .before .args in
+    let put-count′ = c .before .before .put-count in
+    let if1′ = c .before .before .before .before .if1 in
+    let pre′ = c .before .before .before .before .before .before .pre in
+    omega (
+      arith,
+      puts-inside (text (args′ .p / args′ .n + 1) ++ 32 ∷ []) (args′ .out .now) _ (put-count′ .result)
+          (put-count′ .ensures) (first-room (text (args′ .p / args′ .n + 1) ++ 32 ∷ []) ((text (args′ .p % args′ .n + 1) ++ 32 ∷ []) ++
+          ended (signed (args′ .v))) (args′ .out .now) (rw (line-parts (args′ .p / args′ .n) (args′ .p % args′ .n) (args′ .v) ∙ sym
+          (line-present (args′ .n) (args′ .p) (args′ .v) (absent-bits-not (args′ .v) (if1′ .left)))) (pre′ .1))),
+    )
 
 part-put-order-end-end : tie.Need-part-put-order-end-end
-part-put-order-end-end c = omega (arith, puts-inside (text (c .before .before .before .before .before .before .args .p / c .before .before .before .before .before .before .args .n + 1) ++ 32 ∷ []) (c .before .before .before .before .before .before .args .out .now) _ (c .before .before .put-count .result) (c .before .before .put-count .ensures) (first-room (text (c .before .before .before .before .before .before .args .p / c .before .before .before .before .before .before .args .n + 1) ++ 32 ∷ []) ((text (c .before .before .before .before .before .before .args .p % c .before .before .before .before .before .before .args .n + 1) ++ 32 ∷ []) ++ ended (signed (c .before .before .before .before .before .before .args .v))) (c .before .before .before .before .before .before .args .out .now) (rw (line-parts (c .before .before .before .before .before .before .args .p / c .before .before .before .before .before .before .args .n) (c .before .before .before .before .before .before .args .p % c .before .before .before .before .before .before .args .n) (c .before .before .before .before .before .before .args .v) ∙ sym (line-present (c .before .before .before .before .before .before .args .n) (c .before .before .before .before .before .before .args .p) (c .before .before .before .before .before .before .args .v) (absent-bits-not (c .before .before .before .before .before .before .args .v) (c .before .before .before .before .if1 .left)))) (c .before .before .before .before .before .before .pre .1))))
+part-put-order-end-end c = let args′ = c .before .before .before .before .before .before .args in
+    let put-count′ = c .before .before .put-count in
+    let if1′ = c .before .before .before .before .if1 in
+    let pre′ = c .before .before .before .before .before .before .pre in
+    omega (
+      arith,
+      puts-inside (text (args′ .p / args′ .n + 1) ++ 32 ∷ []) (args′ .out .now) _ (put-count′ .result)
+          (put-count′ .ensures) (first-room (text (args′ .p / args′ .n + 1) ++ 32 ∷ []) ((text (args′ .p % args′ .n + 1) ++ 32 ∷ []) ++
+          ended (signed (args′ .v))) (args′ .out .now) (rw (line-parts (args′ .p / args′ .n) (args′ .p % args′ .n) (args′ .v) ∙ sym
+          (line-present (args′ .n) (args′ .p) (args′ .v) (absent-bits-not (args′ .v) (if1′ .left)))) (pre′ .1))),
+    )
 
 put-order-end-requires : tie.Need-put-order-end-requires
-put-order-end-requires c κs = rw (toZ-ofZ (c .before .before .before .before .before .before .before .fits .v)) (c .before .before .before .before .before .before .before .pre .0 .some, c .before .before .before .before .before .before .before .pre .0 .few, c .before .before .before .before .before .before .before .pre .0 .stands (present-bits (c .before .before .before .before .before .before .before .args .v) (c .before .before .before .before .before .if1 .left)), left-room (text (c .before .before .before .before .before .before .before .args .p / c .before .before .before .before .before .before .before .args .n + 1) ++ 32 ∷ []) (c .before .before .before .before .before .before .before .args .out .now) _ (c .before .before .before .put-count .result) (c .before .before .before .put-count .ensures) ((text (c .before .before .before .before .before .before .before .args .p % c .before .before .before .before .before .before .before .args .n + 1) ++ 32 ∷ []) ++ ended (signed (c .before .before .before .before .before .before .before .args .v))) _ refl (part-room (text (c .before .before .before .before .before .before .before .args .p / c .before .before .before .before .before .before .before .args .n + 1) ++ 32 ∷ []) ((text (c .before .before .before .before .before .before .before .args .p % c .before .before .before .before .before .before .before .args .n + 1) ++ 32 ∷ []) ++ ended (signed (c .before .before .before .before .before .before .before .args .v))) (c .before .before .before .before .before .before .before .args .out .now) (rw (line-parts (c .before .before .before .before .before .before .before .args .p / c .before .before .before .before .before .before .before .args .n) (c .before .before .before .before .before .before .before .args .p % c .before .before .before .before .before .before .before .args .n) (c .before .before .before .before .before .before .before .args .v) ∙ sym (line-present (c .before .before .before .before .before .before .before .args .n) (c .before .before .before .before .before .before .before .args .p) (c .before .before .before .before .before .before .before .args .v) (absent-bits-not (c .before .before .before .before .before .before .before .args .v) (c .before .before .before .before .before .if1 .left)))) (c .before .before .before .before .before .before .before .pre .1))))
+put-order-end-requires c κs = let fits′ = c .before .before .before .before .before .before .before .fits in
+    let pre′ = c .before .before .before .before .before .before .before .pre in
+    let args′ = c .before .before .before .before .before .before .before .args in
+    let if1′ = c .before .before .before .before .before .if1 in
+    let put-count′ = c .before .before .before .put-count in
+    rw (toZ-ofZ (fits′ .v)) (
+      pre′ .0 .some,
+      pre′ .0 .few,
+      pre′ .0 .stands (present-bits (args′ .v) (if1′ .left)),
+      left-room (text
+          (args′ .p / args′ .n + 1) ++ 32 ∷ []) (args′ .out .now) _ (put-count′ .result) (put-count′ .ensures) ((text (args′ .p % args′ .n
+          + 1) ++ 32 ∷ []) ++ ended (signed (args′ .v))) _ refl (part-room (text (args′ .p / args′ .n + 1) ++ 32 ∷ []) ((text (args′ .p %
+          args′ .n + 1) ++ 32 ∷ []) ++ ended (signed (args′ .v))) (args′ .out .now) (rw (line-parts (args′ .p / args′ .n) (args′ .p %
+          args′ .n) (args′ .v) ∙ sym (line-present (args′ .n) (args′ .p) (args′ .v) (absent-bits-not (args′ .v) (if1′ .left))))
+          (pre′ .1))),
+    )
 
 add-result : tie.Need-add-result
-add-result c = sum-fits (text (c .before .before .before .before .before .before .before .before .before .before .args .p / c .before .before .before .before .before .before .before .before .before .before .args .n + 1) ++ 32 ∷ []) (c .before .before .before .before .before .before .before .before .before .before .args .out .now) _ (c .before .before .before .before .before .before .put-count .result) (c .before .before .before .before .before .before .put-count .ensures) ((text (c .before .before .before .before .before .before .before .before .before .before .args .p % c .before .before .before .before .before .before .before .before .before .before .args .n + 1) ++ 32 ∷ []) ++ ended (signed (c .before .before .before .before .before .before .before .before .before .before .args .v))) _ _ (c .before .before .put-order-end .result) (puts-same _ ((text (c .before .before .before .before .before .before .before .before .before .before .args .p % c .before .before .before .before .before .before .before .before .before .before .args .n + 1) ++ 32 ∷ []) ++ ended (signed (c .before .before .before .before .before .before .before .before .before .before .args .v))) _ _ _ (ap (λ x. (text (c .before .before .before .before .before .before .before .before .before .before .args .p % c .before .before .before .before .before .before .before .before .before .before .args .n + 1) ++ 32 ∷ []) ++ ended (signed x)) (toZ-ofZ (c .before .before .before .before .before .before .before .before .before .before .fits .v))) (c .before .before .put-order-end .ensures)) (part-room (text (c .before .before .before .before .before .before .before .before .before .before .args .p / c .before .before .before .before .before .before .before .before .before .before .args .n + 1) ++ 32 ∷ []) ((text (c .before .before .before .before .before .before .before .before .before .before .args .p % c .before .before .before .before .before .before .before .before .before .before .args .n + 1) ++ 32 ∷ []) ++ ended (signed (c .before .before .before .before .before .before .before .before .before .before .args .v))) (c .before .before .before .before .before .before .before .before .before .before .args .out .now) (rw (line-parts (c .before .before .before .before .before .before .before .before .before .before .args .p / c .before .before .before .before .before .before .before .before .before .before .args .n) (c .before .before .before .before .before .before .before .before .before .before .args .p % c .before .before .before .before .before .before .before .before .before .before .args .n) (c .before .before .before .before .before .before .before .before .before .before .args .v) ∙ sym (line-present (c .before .before .before .before .before .before .before .before .before .before .args .n) (c .before .before .before .before .before .before .before .before .before .before .args .p) (c .before .before .before .before .before .before .before .before .before .before .args .v) (absent-bits-not (c .before .before .before .before .before .before .before .before .before .before .args .v) (c .before .before .before .before .before .before .before .before .if1 .left)))) (c .before .before .before .before .before .before .before .before .before .before .pre .1))) (search needs)
+add-result c = let args′ = c .before .before .before .before .before .before .before .before .before .before .args in
+    let put-count′ = c .before .before .before .before .before .before .put-count in
+    let put-order-end′ = c .before .before .put-order-end in
+    let fits′ = c .before .before .before .before .before .before .before .before .before .before .fits in
+    let if1′ = c .before .before .before .before .before .before .before .before .if1 in
+    let pre′ = c .before .before .before .before .before .before .before .before .before .before .pre in
+    sum-fits (text (args′ .p / args′ .n + 1) ++ 32 ∷ []) (args′ .out .now) _ (put-count′ .result) (put-count′ .ensures) ((text
+    (args′ .p % args′ .n + 1) ++ 32 ∷ []) ++ ended (signed (args′ .v))) _ _ (put-order-end′ .result) (puts-same _ ((text (args′ .p %
+    args′ .n + 1) ++ 32 ∷ []) ++ ended (signed (args′ .v))) _ _ _ (ap (λ x. (text (args′ .p % args′ .n + 1) ++ 32 ∷ []) ++ ended
+    (signed x)) (toZ-ofZ (fits′ .v))) (put-order-end′ .ensures)) (part-room (text (args′ .p / args′ .n + 1) ++ 32 ∷ []) ((text
+    (args′ .p % args′ .n + 1) ++ 32 ∷ []) ++ ended (signed (args′ .v))) (args′ .out .now) (rw (line-parts (args′ .p / args′ .n)
+    (args′ .p % args′ .n) (args′ .v) ∙ sym (line-present (args′ .n) (args′ .p) (args′ .v) (absent-bits-not (args′ .v)
+    (if1′ .left)))) (pre′ .1))) (search needs)
 
 same-length : tie.Need-same-length
 same-length c = search needs
 
 returns-2 : tie.Need-returns-2
-returns-2 c = puts-same _ _ (c .before .before .before .before .before .before .before .before .before .before .args .out .now) _ _ ((line-parts (c .before .before .before .before .before .before .before .before .before .before .args .p / c .before .before .before .before .before .before .before .before .before .before .args .n) (c .before .before .before .before .before .before .before .before .before .before .args .p % c .before .before .before .before .before .before .before .before .before .before .args .n) (c .before .before .before .before .before .before .before .before .before .before .args .v) ∙ sym (line-present (c .before .before .before .before .before .before .before .before .before .before .args .n) (c .before .before .before .before .before .before .before .before .before .before .args .p) (c .before .before .before .before .before .before .before .before .before .before .args .v) (absent-bits-not (c .before .before .before .before .before .before .before .before .before .before .args .v) (c .before .before .before .before .before .before .before .before .if1 .left))))) (puts-tail (text (c .before .before .before .before .before .before .before .before .before .before .args .p / c .before .before .before .before .before .before .before .before .before .before .args .n + 1) ++ 32 ∷ []) (c .before .before .before .before .before .before .before .before .before .before .args .out .now) _ (c .before .before .before .before .before .before .put-count .result) (c .before .before .before .before .before .before .put-count .ensures) ((text (c .before .before .before .before .before .before .before .before .before .before .args .p % c .before .before .before .before .before .before .before .before .before .before .args .n + 1) ++ 32 ∷ []) ++ ended (signed (c .before .before .before .before .before .before .before .before .before .before .args .v))) _ (c .before .before .put-order-end .result) _ refl (puts-same _ ((text (c .before .before .before .before .before .before .before .before .before .before .args .p % c .before .before .before .before .before .before .before .before .before .before .args .n + 1) ++ 32 ∷ []) ++ ended (signed (c .before .before .before .before .before .before .before .before .before .before .args .v))) _ _ _ (ap (λ x. (text (c .before .before .before .before .before .before .before .before .before .before .args .p % c .before .before .before .before .before .before .before .before .before .before .args .n + 1) ++ 32 ∷ []) ++ ended (signed x)) (toZ-ofZ (c .before .before .before .before .before .before .before .before .before .before .fits .v))) (c .before .before .put-order-end .ensures)) (part-room (text (c .before .before .before .before .before .before .before .before .before .before .args .p / c .before .before .before .before .before .before .before .before .before .before .args .n + 1) ++ 32 ∷ []) ((text (c .before .before .before .before .before .before .before .before .before .before .args .p % c .before .before .before .before .before .before .before .before .before .before .args .n + 1) ++ 32 ∷ []) ++ ended (signed (c .before .before .before .before .before .before .before .before .before .before .args .v))) (c .before .before .before .before .before .before .before .before .before .before .args .out .now) (rw (line-parts (c .before .before .before .before .before .before .before .before .before .before .args .p / c .before .before .before .before .before .before .before .before .before .before .args .n) (c .before .before .before .before .before .before .before .before .before .before .args .p % c .before .before .before .before .before .before .before .before .before .before .args .n) (c .before .before .before .before .before .before .before .before .before .before .args .v) ∙ sym (line-present (c .before .before .before .before .before .before .before .before .before .before .args .n) (c .before .before .before .before .before .before .before .before .before .before .args .p) (c .before .before .before .before .before .before .before .before .before .before .args .v) (absent-bits-not (c .before .before .before .before .before .before .before .before .before .before .args .v) (c .before .before .before .before .before .before .before .before .if1 .left)))) (c .before .before .before .before .before .before .before .before .before .before .pre .1))))
+returns-2 c = let args′ = c .before .before .before .before .before .before .before .before .before .before .args in
+    let if1′ = c .before .before .before .before .before .before .before .before .if1 in
+    let put-count′ = c .before .before .before .before .before .before .put-count in
+    let put-order-end′ = c .before .before .put-order-end in
+    let fits′ = c .before .before .before .before .before .before .before .before .before .before .fits in
+    let pre′ = c .before .before .before .before .before .before .before .before .before .before .pre in
+    puts-same _ _ (args′ .out .now) _ _ ((line-parts (args′ .p / args′ .n) (args′ .p % args′ .n) (args′ .v) ∙ sym (line-present
+    (args′ .n) (args′ .p) (args′ .v) (absent-bits-not (args′ .v) (if1′ .left))))) (puts-tail (text (args′ .p / args′ .n + 1) ++ 32 ∷
+    []) (args′ .out .now) _ (put-count′ .result) (put-count′ .ensures) ((text (args′ .p % args′ .n + 1) ++ 32 ∷ []) ++ ended (signed
+    (args′ .v))) _ (put-order-end′ .result) _ refl (puts-same _ ((text (args′ .p % args′ .n + 1) ++ 32 ∷ []) ++ ended (signed
+    (args′ .v))) _ _ _ (ap (λ x. (text (args′ .p % args′ .n + 1) ++ 32 ∷ []) ++ ended (signed x)) (toZ-ofZ (fits′ .v)))
+    (put-order-end′ .ensures)) (part-room (text (args′ .p / args′ .n + 1) ++ 32 ∷ []) ((text (args′ .p % args′ .n + 1) ++ 32 ∷ [])
+    ++ ended (signed (args′ .v))) (args′ .out .now) (rw (line-parts (args′ .p / args′ .n) (args′ .p % args′ .n) (args′ .v) ∙ sym
+    (line-present (args′ .n) (args′ .p) (args′ .v) (absent-bits-not (args′ .v) (if1′ .left)))) (pre′ .1))))
 
 pub put-order-spec : {M : Type 1} → statement M
 put-order-spec =

@@ -8,7 +8,6 @@ use Rattle.writer.proofs.PutLaws.{puts-inside, puts-tail, puts-same, le
 use mathlib.Core.List.{[], _∷_, _++_, append-assoc}
 use Rattle.sheet.specs.Text.{text, ended, ordersHead}
 use Rattle.sheet.specs.Sheet.{presentCount, orderLines}
-use borrow.Author.Needs.{needs}
 use Rattle.writer.proofs.put_order_section.Statement.{statement}
 use Rattle.writer.proofs.put_order_section.Tie as tie
 
@@ -19,28 +18,90 @@ slice-aggregate-put-heading : tie.Need-slice-aggregate-put-heading
 slice-aggregate-put-heading c = search needs
 
 put-heading-requires : tie.Need-put-heading-requires
-put-heading-requires c κs = rw (c .before .before .present-count .ensures) (first-room (ended (ordersHead ++ text (presentCount (c .before .before .before .before .args .table .now)))) (orderLines (c .before .before .before .before .args .n) 0 (c .before .before .before .before .args .table .now)) (c .before .before .before .before .args .out .now) (c .before .before .before .before .pre .1))
+put-heading-requires c κs = let present-count′ = c .before .before .present-count in
+    let args′ = c .before .before .before .before .args in
+    let pre′ = c .before .before .before .before .pre in
+    rw (present-count′ .ensures) (first-room (ended (ordersHead ++ text (presentCount (args′ .table .now)))) (orderLines (args′ .n)
+    0 (args′ .table .now)) (args′ .out .now) (pre′ .1))
 
 sub-put-orders : tie.Need-sub-put-orders
-sub-put-orders c = omega (arith, puts-inside (ended (ordersHead ++ text (presentCount (c .before .before .before .before .before .before .before .args .table .now)))) (c .before .before .before .before .before .before .before .args .out .now) _ (c .before .before .put-heading .result) (puts-same _ (ended (ordersHead ++ text (presentCount (c .before .before .before .before .before .before .before .args .table .now)))) _ _ _ (ap (λ x. ended (ordersHead ++ text x)) (c .before .before .before .before .before .present-count .ensures)) (c .before .before .put-heading .ensures)) (first-room (ended (ordersHead ++ text (presentCount (c .before .before .before .before .before .before .before .args .table .now)))) (orderLines (c .before .before .before .before .before .before .before .args .n) 0 (c .before .before .before .before .before .before .before .args .table .now)) (c .before .before .before .before .before .before .before .args .out .now) (c .before .before .before .before .before .before .before .pre .1)))
+sub-put-orders c = let args′ = c .before .before .before .before .before .before .before .args in
+    let put-heading′ = c .before .before .put-heading in
+    let present-count′ = c .before .before .before .before .before .present-count in
+    let pre′ = c .before .before .before .before .before .before .before .pre in
+    omega (
+      arith,
+      puts-inside (ended (ordersHead ++ text (presentCount (args′ .table .now)))) (args′ .out .now) _
+          (put-heading′ .result) (puts-same _ (ended (ordersHead ++ text (presentCount (args′ .table .now)))) _ _ _ (ap (λ x. ended
+          (ordersHead ++ text x)) (present-count′ .ensures)) (put-heading′ .ensures)) (first-room (ended (ordersHead ++ text (presentCount
+          (args′ .table .now)))) (orderLines (args′ .n) 0 (args′ .table .now)) (args′ .out .now) (pre′ .1)),
+    )
 
 part-put-orders-start : tie.Need-part-put-orders-start
-part-put-orders-start c = omega (arith, puts-inside (ended (ordersHead ++ text (presentCount (c .before .before .before .before .before .before .before .args .table .now)))) (c .before .before .before .before .before .before .before .args .out .now) _ (c .before .before .put-heading .result) (puts-same _ (ended (ordersHead ++ text (presentCount (c .before .before .before .before .before .before .before .args .table .now)))) _ _ _ (ap (λ x. ended (ordersHead ++ text x)) (c .before .before .before .before .before .present-count .ensures)) (c .before .before .put-heading .ensures)) (first-room (ended (ordersHead ++ text (presentCount (c .before .before .before .before .before .before .before .args .table .now)))) (orderLines (c .before .before .before .before .before .before .before .args .n) 0 (c .before .before .before .before .before .before .before .args .table .now)) (c .before .before .before .before .before .before .before .args .out .now) (c .before .before .before .before .before .before .before .pre .1)))
+part-put-orders-start c = let args′ = c .before .before .before .before .before .before .before .args in
+    let put-heading′ = c .before .before .put-heading in
+    let present-count′ = c .before .before .before .before .before .present-count in
+    let pre′ = c .before .before .before .before .before .before .before .pre in
+    omega (
+      arith,
+      puts-inside (ended (ordersHead ++ text (presentCount (args′ .table .now)))) (args′ .out .now) _
+          (put-heading′ .result) (puts-same _ (ended (ordersHead ++ text (presentCount (args′ .table .now)))) _ _ _ (ap (λ x. ended
+          (ordersHead ++ text x)) (present-count′ .ensures)) (put-heading′ .ensures)) (first-room (ended (ordersHead ++ text (presentCount
+          (args′ .table .now)))) (orderLines (args′ .n) 0 (args′ .table .now)) (args′ .out .now) (pre′ .1)),
+    )
 
 part-put-orders-end : tie.Need-part-put-orders-end
-part-put-orders-end c = omega (arith, puts-inside (ended (ordersHead ++ text (presentCount (c .before .before .before .before .before .before .before .args .table .now)))) (c .before .before .before .before .before .before .before .args .out .now) _ (c .before .before .put-heading .result) (puts-same _ (ended (ordersHead ++ text (presentCount (c .before .before .before .before .before .before .before .args .table .now)))) _ _ _ (ap (λ x. ended (ordersHead ++ text x)) (c .before .before .before .before .before .present-count .ensures)) (c .before .before .put-heading .ensures)) (first-room (ended (ordersHead ++ text (presentCount (c .before .before .before .before .before .before .before .args .table .now)))) (orderLines (c .before .before .before .before .before .before .before .args .n) 0 (c .before .before .before .before .before .before .before .args .table .now)) (c .before .before .before .before .before .before .before .args .out .now) (c .before .before .before .before .before .before .before .pre .1)))
+part-put-orders-end c = let args′ = c .before .before .before .before .before .before .before .args in
+    let put-heading′ = c .before .before .put-heading in
+    let present-count′ = c .before .before .before .before .before .present-count in
+    let pre′ = c .before .before .before .before .before .before .before .pre in
+    omega (
+      arith,
+      puts-inside (ended (ordersHead ++ text (presentCount (args′ .table .now)))) (args′ .out .now) _
+          (put-heading′ .result) (puts-same _ (ended (ordersHead ++ text (presentCount (args′ .table .now)))) _ _ _ (ap (λ x. ended
+          (ordersHead ++ text x)) (present-count′ .ensures)) (put-heading′ .ensures)) (first-room (ended (ordersHead ++ text (presentCount
+          (args′ .table .now)))) (orderLines (args′ .n) 0 (args′ .table .now)) (args′ .out .now) (pre′ .1)),
+    )
 
 put-orders-requires : tie.Need-put-orders-requires
-put-orders-requires c κs = (c .before .before .before .before .before .before .before .before .pre .0, left-room (ended (ordersHead ++ text (presentCount (c .before .before .before .before .before .before .before .before .args .table .now)))) (c .before .before .before .before .before .before .before .before .args .out .now) _ (c .before .before .before .put-heading .result) (puts-same _ (ended (ordersHead ++ text (presentCount (c .before .before .before .before .before .before .before .before .args .table .now)))) _ _ _ (ap (λ x. ended (ordersHead ++ text x)) (c .before .before .before .before .before .before .present-count .ensures)) (c .before .before .before .put-heading .ensures)) (orderLines (c .before .before .before .before .before .before .before .before .args .n) 0 (c .before .before .before .before .before .before .before .before .args .table .now)) _ refl (part-room (ended (ordersHead ++ text (presentCount (c .before .before .before .before .before .before .before .before .args .table .now)))) (orderLines (c .before .before .before .before .before .before .before .before .args .n) 0 (c .before .before .before .before .before .before .before .before .args .table .now)) (c .before .before .before .before .before .before .before .before .args .out .now) (c .before .before .before .before .before .before .before .before .pre .1)))
+put-orders-requires c κs = let pre′ = c .before .before .before .before .before .before .before .before .pre in
+    let args′ = c .before .before .before .before .before .before .before .before .args in
+    let put-heading′ = c .before .before .before .put-heading in
+    let present-count′ = c .before .before .before .before .before .before .present-count in (
+      pre′ .0,
+      left-room (ended (ordersHead ++ text (presentCount (args′ .table .now)))) (args′ .out .now) _ (put-heading′ .result)
+          (puts-same _ (ended (ordersHead ++ text (presentCount (args′ .table .now)))) _ _ _ (ap (λ x. ended (ordersHead ++ text x))
+          (present-count′ .ensures)) (put-heading′ .ensures)) (orderLines (args′ .n) 0 (args′ .table .now)) _ refl (part-room (ended
+          (ordersHead ++ text (presentCount (args′ .table .now)))) (orderLines (args′ .n) 0 (args′ .table .now)) (args′ .out .now)
+          (pre′ .1)),
+    )
 
 add-result : tie.Need-add-result
-add-result c = sum-fits (ended (ordersHead ++ text (presentCount (c .before .before .before .before .before .before .before .before .before .before .before .args .table .now)))) (c .before .before .before .before .before .before .before .before .before .before .before .args .out .now) _ (c .before .before .before .before .before .before .put-heading .result) (puts-same _ (ended (ordersHead ++ text (presentCount (c .before .before .before .before .before .before .before .before .before .before .before .args .table .now)))) _ _ _ (ap (λ x. ended (ordersHead ++ text x)) (c .before .before .before .before .before .before .before .before .before .present-count .ensures)) (c .before .before .before .before .before .before .put-heading .ensures)) (orderLines (c .before .before .before .before .before .before .before .before .before .before .before .args .n) 0 (c .before .before .before .before .before .before .before .before .before .before .before .args .table .now)) _ _ (c .before .before .put-orders .result) (c .before .before .put-orders .ensures) (part-room (ended (ordersHead ++ text (presentCount (c .before .before .before .before .before .before .before .before .before .before .before .args .table .now)))) (orderLines (c .before .before .before .before .before .before .before .before .before .before .before .args .n) 0 (c .before .before .before .before .before .before .before .before .before .before .before .args .table .now)) (c .before .before .before .before .before .before .before .before .before .before .before .args .out .now) (c .before .before .before .before .before .before .before .before .before .before .before .pre .1)) (search needs)
+add-result c = let args′ = c .before .before .before .before .before .before .before .before .before .before .before .args in
+    let put-heading′ = c .before .before .before .before .before .before .put-heading in
+    let present-count′ = c .before .before .before .before .before .before .before .before .before .present-count in
+    let put-orders′ = c .before .before .put-orders in
+    let pre′ = c .before .before .before .before .before .before .before .before .before .before .before .pre in
+    sum-fits (ended (ordersHead ++ text (presentCount (args′ .table .now)))) (args′ .out .now) _ (put-heading′ .result) (puts-same _
+    (ended (ordersHead ++ text (presentCount (args′ .table .now)))) _ _ _ (ap (λ x. ended (ordersHead ++ text x))
+    (present-count′ .ensures)) (put-heading′ .ensures)) (orderLines (args′ .n) 0 (args′ .table .now)) _ _ (put-orders′ .result)
+    (put-orders′ .ensures) (part-room (ended (ordersHead ++ text (presentCount (args′ .table .now)))) (orderLines (args′ .n) 0
+    (args′ .table .now)) (args′ .out .now) (pre′ .1)) (search needs)
 
 same-length : tie.Need-same-length
 same-length c = search needs
 
 returns : tie.Need-returns
-returns c = puts-tail (ended (ordersHead ++ text (presentCount (c .before .before .before .before .before .before .before .before .before .before .before .args .table .now)))) (c .before .before .before .before .before .before .before .before .before .before .before .args .out .now) _ (c .before .before .before .before .before .before .put-heading .result) (puts-same _ (ended (ordersHead ++ text (presentCount (c .before .before .before .before .before .before .before .before .before .before .before .args .table .now)))) _ _ _ (ap (λ x. ended (ordersHead ++ text x)) (c .before .before .before .before .before .before .before .before .before .present-count .ensures)) (c .before .before .before .before .before .before .put-heading .ensures)) (orderLines (c .before .before .before .before .before .before .before .before .before .before .before .args .n) 0 (c .before .before .before .before .before .before .before .before .before .before .before .args .table .now)) _ (c .before .before .put-orders .result) _ refl (c .before .before .put-orders .ensures) (part-room (ended (ordersHead ++ text (presentCount (c .before .before .before .before .before .before .before .before .before .before .before .args .table .now)))) (orderLines (c .before .before .before .before .before .before .before .before .before .before .before .args .n) 0 (c .before .before .before .before .before .before .before .before .before .before .before .args .table .now)) (c .before .before .before .before .before .before .before .before .before .before .before .args .out .now) (c .before .before .before .before .before .before .before .before .before .before .before .pre .1))
+returns c = let args′ = c .before .before .before .before .before .before .before .before .before .before .before .args in
+    let put-heading′ = c .before .before .before .before .before .before .put-heading in
+    let present-count′ = c .before .before .before .before .before .before .before .before .before .present-count in
+    let put-orders′ = c .before .before .put-orders in
+    let pre′ = c .before .before .before .before .before .before .before .before .before .before .before .pre in
+    puts-tail (ended (ordersHead ++ text (presentCount (args′ .table .now)))) (args′ .out .now) _ (put-heading′ .result) (puts-same
+    _ (ended (ordersHead ++ text (presentCount (args′ .table .now)))) _ _ _ (ap (λ x. ended (ordersHead ++ text x))
+    (present-count′ .ensures)) (put-heading′ .ensures)) (orderLines (args′ .n) 0 (args′ .table .now)) _ (put-orders′ .result) _ refl
+    (put-orders′ .ensures) (part-room (ended (ordersHead ++ text (presentCount (args′ .table .now)))) (orderLines (args′ .n) 0
+    (args′ .table .now)) (args′ .out .now) (pre′ .1))
 
 pub put-order-section-spec : {M : Type 1} → statement M
 put-order-section-spec =

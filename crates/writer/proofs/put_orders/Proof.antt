@@ -26,46 +26,122 @@ unfolding orderLines
 loop-holds c = (omega arith, c .before .pre .0, c .before .pre .1, refl, puts-none (c .before .args .out .now))
 
 mul-put-order : tie.Need-mul-put-order Inv-loop μ-loop
-mul-put-order c = omega (arith, square-few (c .before .before .before .args .n) (c .before .loop .inv .1 .few), c .before .loop .inv .1 .square)
+mul-put-order c = omega (
+  arith,
+  square-few (c .before .before .before .args .n) (c .before .loop .inv .1 .few),
+  c .before .loop .inv .1 .square,
+)
 
 shared-slice-copy-out-put-order : tie.Need-shared-slice-copy-out-put-order Inv-loop μ-loop
 shared-slice-copy-out-put-order c = search needs
 
 sub-put-order : tie.Need-sub-put-order Inv-loop μ-loop
-sub-put-order c = omega (arith, puts-inside (orderLines (c .before .before .before .before .args .n) 0 (take (c .before .before .loop .p) (c .before .before .before .before .args .table .now))) (c .before .before .before .before .args .out .now) (c .before .before .loop .out) (c .before .before .loop .at) (c .before .before .loop .inv .4) (omega (arith, next-room (c .before .before .before .before .args .n) (c .before .before .before .before .args .table .now) (c .before .before .loop .p) (c .before .before .before .before .args .out .now) (omega arith) (c .before .before .loop .inv .2))))
+sub-put-order c = let args′ = c .before .before .before .before .args in
+    let loop′ = c .before .before .loop in
+    omega (
+      arith,
+      puts-inside (orderLines (args′ .n) 0 (take (loop′ .p) (args′ .table .now))) (args′ .out .now) (loop′ .out)
+          (loop′ .at) (loop′ .inv .4) (omega (
+            arith,
+            next-room (args′ .n) (args′ .table .now) (loop′ .p) (args′ .out .now) (omega arith)
+                (loop′ .inv .2),
+          )),
+    )
 
 part-put-order-start : tie.Need-part-put-order-start Inv-loop μ-loop
-part-put-order-start c = omega (arith, puts-inside (orderLines (c .before .before .before .before .args .n) 0 (take (c .before .before .loop .p) (c .before .before .before .before .args .table .now))) (c .before .before .before .before .args .out .now) (c .before .before .loop .out) (c .before .before .loop .at) (c .before .before .loop .inv .4) (omega (arith, next-room (c .before .before .before .before .args .n) (c .before .before .before .before .args .table .now) (c .before .before .loop .p) (c .before .before .before .before .args .out .now) (omega arith) (c .before .before .loop .inv .2))))
+part-put-order-start c = let args′ = c .before .before .before .before .args in
+    let loop′ = c .before .before .loop in
+    omega (
+      arith,
+      puts-inside (orderLines (args′ .n) 0 (take (loop′ .p) (args′ .table .now))) (args′ .out .now) (loop′ .out)
+          (loop′ .at) (loop′ .inv .4) (omega (
+            arith,
+            next-room (args′ .n) (args′ .table .now) (loop′ .p) (args′ .out .now) (omega arith)
+                (loop′ .inv .2),
+          )),
+    )
 
 part-put-order-end : tie.Need-part-put-order-end Inv-loop μ-loop
-part-put-order-end c = omega (arith, puts-inside (orderLines (c .before .before .before .before .args .n) 0 (take (c .before .before .loop .p) (c .before .before .before .before .args .table .now))) (c .before .before .before .before .args .out .now) (c .before .before .loop .out) (c .before .before .loop .at) (c .before .before .loop .inv .4) (omega (arith, next-room (c .before .before .before .before .args .n) (c .before .before .before .before .args .table .now) (c .before .before .loop .p) (c .before .before .before .before .args .out .now) (omega arith) (c .before .before .loop .inv .2))))
+part-put-order-end c = let args′ = c .before .before .before .before .args in
+    let loop′ = c .before .before .loop in
+    omega (
+      arith,
+      puts-inside (orderLines (args′ .n) 0 (take (loop′ .p) (args′ .table .now))) (args′ .out .now) (loop′ .out)
+          (loop′ .at) (loop′ .inv .4) (omega (
+            arith,
+            next-room (args′ .n) (args′ .table .now) (loop′ .p) (args′ .out .now) (omega arith)
+                (loop′ .inv .2),
+          )),
+    )
 
 put-order-requires : tie.Need-put-order-requires Inv-loop μ-loop
-put-order-requires c κs = rw (back w16 (getD (c .before .before .before .before .before .args .table .now) (c .before .before .before .loop .p) (pos 0)) (c .before .put-order-arg .given)) (entry-tested (c .before .before .before .before .before .args .n) (c .before .before .before .before .before .args .table .now) (c .before .before .before .loop .p) (c .before .before .before .loop .inv .1) (omega arith), left-room (orderLines (c .before .before .before .before .before .args .n) 0 (take (c .before .before .before .loop .p) (c .before .before .before .before .before .args .table .now))) (c .before .before .before .before .before .args .out .now) (c .before .before .before .loop .out) (c .before .before .before .loop .at) (c .before .before .before .loop .inv .4) (orderLine (c .before .before .before .before .before .args .n) (c .before .before .before .loop .p) (getD (c .before .before .before .before .before .args .table .now) (c .before .before .before .loop .p) (pos 0))) _ refl (next-room (c .before .before .before .before .before .args .n) (c .before .before .before .before .before .args .table .now) (c .before .before .before .loop .p) (c .before .before .before .before .before .args .out .now) (omega arith) (c .before .before .before .loop .inv .2)))
+put-order-requires c κs = let args′ = c .before .before .before .before .before .args in
+    let loop′ = c .before .before .before .loop in
+    let put-order-arg′ = c .before .put-order-arg in
+    rw (back w16 (getD (args′ .table .now) (loop′ .p) (pos 0)) (put-order-arg′ .given)) (
+      entry-tested (args′ .n) (args′ .table .now)
+          (loop′ .p) (loop′ .inv .1) (omega arith),
+      left-room (orderLines (args′ .n) 0 (take (loop′ .p) (args′ .table .now)))
+          (args′ .out .now) (loop′ .out) (loop′ .at) (loop′ .inv .4) (orderLine (args′ .n) (loop′ .p) (getD (args′ .table .now) (loop′ .p)
+          (pos 0))) _ refl (next-room (args′ .n) (args′ .table .now) (loop′ .p) (args′ .out .now) (omega arith) (loop′ .inv .2)),
+    )
 
 add-at : tie.Need-add-at Inv-loop μ-loop
-add-at c = sum-fits (orderLines (c .before .before .before .before .before .before .before .before .args .n) 0 (take (c .before .before .before .before .before .before .loop .p) (c .before .before .before .before .before .before .before .before .args .table .now))) (c .before .before .before .before .before .before .before .before .args .out .now) (c .before .before .before .before .before .before .loop .out) (c .before .before .before .before .before .before .loop .at) (c .before .before .before .before .before .before .loop .inv .4) (orderLine (c .before .before .before .before .before .before .before .before .args .n) (c .before .before .before .before .before .before .loop .p) (getD (c .before .before .before .before .before .before .before .before .args .table .now) (c .before .before .before .before .before .before .loop .p) (pos 0))) _ _ (c .before .before .put-order .result) (puts-same _ (orderLine (c .before .before .before .before .before .before .before .before .args .n) (c .before .before .before .before .before .before .loop .p) (getD (c .before .before .before .before .before .before .before .before .args .table .now) (c .before .before .before .before .before .before .loop .p) (pos 0))) _ _ _ (ap (λ x. orderLine (c .before .before .before .before .before .before .before .before .args .n) (c .before .before .before .before .before .before .loop .p) x) (back w16 (getD (c .before .before .before .before .before .before .before .before .args .table .now) (c .before .before .before .before .before .before .loop .p) (pos 0)) (c .before .before .before .before .put-order-arg .given))) (c .before .before .put-order .ensures)) (next-room (c .before .before .before .before .before .before .before .before .args .n) (c .before .before .before .before .before .before .before .before .args .table .now) (c .before .before .before .before .before .before .loop .p) (c .before .before .before .before .before .before .before .before .args .out .now) (omega arith) (c .before .before .before .before .before .before .loop .inv .2)) (search needs)
+add-at c = let args′ = c .before .before .before .before .before .before .before .before .args in
+    let loop′ = c .before .before .before .before .before .before .loop in
+    let put-order′ = c .before .before .put-order in
+    let put-order-arg′ = c .before .before .before .before .put-order-arg in
+    sum-fits (orderLines (args′ .n) 0 (take (loop′ .p) (args′ .table .now))) (args′ .out .now) (loop′ .out) (loop′ .at)
+    (loop′ .inv .4) (orderLine (args′ .n) (loop′ .p) (getD (args′ .table .now) (loop′ .p) (pos 0))) _ _ (put-order′ .result)
+    (puts-same _ (orderLine (args′ .n) (loop′ .p) (getD (args′ .table .now) (loop′ .p) (pos 0))) _ _ _ (ap (λ x. orderLine
+    (args′ .n) (loop′ .p) x) (back w16 (getD (args′ .table .now) (loop′ .p) (pos 0)) (put-order-arg′ .given)))
+    (put-order′ .ensures)) (next-room (args′ .n) (args′ .table .now) (loop′ .p) (args′ .out .now) (omega arith) (loop′ .inv .2))
+    (search needs)
 
 add-p : tie.Need-add-p Inv-loop μ-loop
-add-p c = omega (arith, square-few (c .before .before .before .before .before .before .before .before .args .n) (c .before .before .before .before .before .before .loop .inv .1 .few), c .before .before .before .before .before .before .loop .inv .1 .square)
+add-p c = let args′ = c .before .before .before .before .before .before .before .before .args in
+    let loop′ = c .before .before .before .before .before .before .loop in
+    omega (arith, square-few (args′ .n) (loop′ .inv .1 .few), loop′ .inv .1 .square)
 
 loop-less : tie.Need-loop-less Inv-loop μ-loop
 loop-less c = search needs
 
 loop-again : tie.Need-loop-again Inv-loop μ-loop
-loop-again c = let l = (c .before .before .before .before .before .before .loop) in
-    let t = c .before .before .before .before .before .before .before .before .args .table .now in
-    let q = puts-same _ (orderLines (c .before .before .before .before .before .before .before .before .args .n) 0 (take (l .p + 1) t)) (c .before .before .before .before .before .before .before .before .args .out .now) _ _ (sym (order-lines-next t (l .p) (omega arith) (c .before .before .before .before .before .before .before .before .args .n)))
-    (puts-tail (orderLines (c .before .before .before .before .before .before .before .before .args .n) 0 (take (c .before .before .before .before .before .before .loop .p) (c .before .before .before .before .before .before .before .before .args .table .now))) (c .before .before .before .before .before .before .before .before .args .out .now) (l .out) (l .at) (l .inv .4) (orderLine (c .before .before .before .before .before .before .before .before .args .n) (c .before .before .before .before .before .before .loop .p) (getD (c .before .before .before .before .before .before .before .before .args .table .now) (c .before .before .before .before .before .before .loop .p) (pos 0))) _ (c .before .before .put-order .result) _ refl (puts-same _ (orderLine (c .before .before .before .before .before .before .before .before .args .n) (c .before .before .before .before .before .before .loop .p) (getD (c .before .before .before .before .before .before .before .before .args .table .now) (c .before .before .before .before .before .before .loop .p) (pos 0))) _ _ _ (ap (λ x. orderLine (c .before .before .before .before .before .before .before .before .args .n) (c .before .before .before .before .before .before .loop .p) x) (back w16 (getD (c .before .before .before .before .before .before .before .before .args .table .now) (c .before .before .before .before .before .before .loop .p) (pos 0)) (c .before .before .before .before .put-order-arg .given))) (c .before .before .put-order .ensures)) (next-room (c .before .before .before .before .before .before .before .before .args .n) (c .before .before .before .before .before .before .before .before .args .table .now) (c .before .before .before .before .before .before .loop .p) (c .before .before .before .before .before .before .before .before .args .out .now) (omega arith) (c .before .before .before .before .before .before .loop .inv .2))) in
-    (omega arith, l .inv .1, l .inv .2, puts-length _ (c .before .before .before .before .before .before .before .before .args .out .now) _ _ q (omega (arith, front-lines (c .before .before .before .before .before .before .before .before .args .n) (l .p + 1) t, l .inv .2)), q)
+loop-again c = let loop′ = c .before .before .before .before .before .before .loop in
+    let args′ = c .before .before .before .before .before .before .before .before .args in
+    let put-order′ = c .before .before .put-order in
+    let put-order-arg′ = c .before .before .before .before .put-order-arg in
+    let l = loop′ in
+    let t = args′ .table .now in
+    let q = puts-same _ (orderLines (args′ .n) 0 (take (l .p + 1) t)) (args′ .out .now) _ _ (sym (order-lines-next t (l .p) (omega
+    arith) (args′ .n)))
+    (puts-tail (orderLines (args′ .n) 0 (take (loop′ .p) (args′ .table .now))) (args′ .out .now) (l .out) (l .at)
+    (l .inv .4) (orderLine (args′ .n) (loop′ .p) (getD (args′ .table .now) (loop′ .p) (pos 0))) _ (put-order′ .result) _
+    refl (puts-same _ (orderLine (args′ .n) (loop′ .p) (getD (args′ .table .now) (loop′ .p) (pos 0))) _ _ _ (ap (λ x.
+    orderLine (args′ .n) (loop′ .p) x) (back w16 (getD (args′ .table .now) (loop′ .p) (pos 0)) (put-order-arg′ .given)))
+    (put-order′ .ensures)) (next-room (args′ .n) (args′ .table .now) (loop′ .p) (args′ .out .now) (omega arith)
+    (loop′ .inv .2))) in (
+      omega arith,
+      l .inv .1,
+      l .inv .2,
+      puts-length _ (args′ .out .now) _ _ q (omega (
+        arith,
+        front-lines (args′ .n) (l .p + 1) t,
+        l .inv .2,
+      )),
+      q,
+    )
 
 same-length : tie.Need-same-length Inv-loop μ-loop
 same-length c = c .before .loop .inv .3
 
 returns : tie.Need-returns Inv-loop μ-loop
-returns c = let t = c .before .before .before .args .table .now in
-    let e : c .before .loop .p ≡ length t = omega arith in
-    puts-same _ (orderLines (c .before .before .before .args .n) 0 t) (c .before .before .before .args .out .now) (c .before .loop .out) (c .before .loop .at) (ap (λ x. orderLines (c .before .before .before .args .n) 0 x) (ap (λ i. take i t) e ∙ take-length t)) (c .before .loop .inv .4)
+returns c = let args′ = c .before .before .before .args in
+    let loop′ = c .before .loop in
+    let t = args′ .table .now in
+    let e : loop′ .p ≡ length t = omega arith in
+    puts-same _ (orderLines (args′ .n) 0 t) (args′ .out .now) (loop′ .out) (loop′ .at) (ap (λ x. orderLines (args′ .n) 0 x) (ap (λ
+    i. take i t) e ∙ take-length t)) (loop′ .inv .4)
 
 pub put-orders-spec : {M : Type 1} → statement M
 put-orders-spec =

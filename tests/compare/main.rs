@@ -23,7 +23,10 @@ use wire::{Answer, Call, Driver, Part, Request};
 
 struct Tally {
     failures: usize,
+    /// How often each call gave each status.
     given: BTreeMap<(u8, u32), usize>,
+    /// How often each call gave something else than is right.
+    different: BTreeMap<u8, usize>,
 }
 
 impl Tally {
@@ -33,7 +36,9 @@ impl Tally {
             *self.given.entry((request.call as u8, answer.status)).or_insert(0) += 1;
             if wanted != answer {
                 self.failures += 1;
-                if self.failures <= 5 {
+                let seen = self.different.entry(request.call as u8).or_insert(0);
+                *seen += 1;
+                if *seen <= 3 {
                     let (asked, right, wrong) = (request.describe(), wanted.describe(), answer.describe());
                     println!("DIFFERENT\nasked {asked}\nwanted {right}\ngiven {wrong}");
                 }
@@ -191,7 +196,7 @@ fn main() {
     let count: usize = count.parse().expect("COUNT is a number");
     let mut chance = Chance::new(seed);
     let mut driver = Driver::start(driver);
-    let mut tally = Tally { failures: 0, given: BTreeMap::new() };
+    let mut tally = Tally { failures: 0, given: BTreeMap::new(), different: BTreeMap::new() };
     let text = std::fs::read_to_string(vectors).expect("the vectors");
     let stored = vectors::run(&mut driver, &text, &mut tally.failures);
     check_oracle(&mut chance, count / 20);
@@ -209,6 +214,9 @@ fn main() {
         count / 20,
         tally.failures
     );
+    for (call, count) in &tally.different {
+        println!("compare: call {call} differed {count} times");
+    }
     if tally.failures > 0 || !missing.is_empty() || !ended {
         std::process::exit(1);
     }

@@ -1,7 +1,8 @@
 //! Times the library's calls beside an ordinary implementation of the same answers, in one run.
 //!
 //! bench table: the table of times, each the median of repeats and of the processor's time alone. bench stack: the stack that each call uses.
-//! bench count CALL KIND N WHO: the call on every table once, for callgrind. The answers of the two are compared first.
+//! bench count CALL KIND N WHO: the call on every table once, inside the function `counted`, for callgrind. bench tables:
+//! how many tables that is. The answers of the two are compared first.
 
 mod ordinary;
 
@@ -319,6 +320,15 @@ fn print_stack() {
     }
 }
 
+/// What callgrind counts.
+#[inline(never)]
+fn counted(caller: Caller, call: &str, jobs: &[Job], room: &mut Room) {
+    for job in jobs {
+        std::hint::black_box(caller(call, job, room));
+    }
+    std::hint::black_box(room);
+}
+
 fn main() {
     let words: Vec<String> = std::env::args().skip(1).collect();
     let words: Vec<&str> = words.iter().map(|w| w.as_str()).collect();
@@ -327,14 +337,12 @@ fn main() {
         ["stack"] => print_stack(),
         ["count", call, kind, n, who] => {
             let jobs = jobs(kind, n.parse().expect("N is a number"));
-            let mut room = Room::new();
-            let caller: Caller = if who == "library" { library } else { ordinary_call };
-            for job in &jobs {
-                std::hint::black_box(caller(call, job, &mut room));
-            }
+            agree(call, &jobs);
+            counted(if who == "library" { library } else { ordinary_call }, call, &jobs, &mut Room::new());
         }
+        ["tables"] => println!("{TABLES}"),
         _ => {
-            eprintln!("usage: bench table | stack | count CALL KIND N library|ordinary");
+            eprintln!("usage: bench table | stack | tables | count CALL KIND N library|ordinary");
             std::process::exit(2);
         }
     }

@@ -1,8 +1,8 @@
 //! Times the library's calls beside an ordinary implementation of the same answers, in one run.
 //!
-//! bench table: the table of times, each the median of repeats and of the processor's time alone. bench stack: the stack that each call uses.
+//! bench table [CALL]: the table of times, each the median of repeats and of the processor's time alone. bench stack: the stack that each call uses.
 //! bench count CALL KIND N WHO: the call on every table once, inside the function `counted`, for callgrind. bench tables:
-//! how many tables that is. The answers of the two are compared first.
+//! how many tables that is. bench spin CALL KIND N WHO: the same many times over, for a sampling profiler. The answers of the two are compared first.
 
 mod ordinary;
 
@@ -28,6 +28,7 @@ extern "C" {
     fn canon_write_sheet(n: usize, table: *const i16, table_len: usize, rows: *const u8, rows_len: usize,
         cols: *const u8, cols_len: usize, out: *mut u8, out_len: usize, length: *mut usize) -> u32;
     fn clock_gettime(clock: i32, time: *mut [i64; 2]) -> i32;
+    fn _exit(status: i32) -> !;
 }
 
 struct Chance(u64);
@@ -275,10 +276,10 @@ fn measure(call: &str, jobs: &[Job]) -> (f64, f64) {
     (median(pairs.0), median(pairs.1))
 }
 
-fn print_table() {
+fn print_table(calls: &[&str]) {
     println!("| call | tables | N | library µs | ordinary µs | ratio | growth 16 → 32, library | ordinary |");
     println!("|---|---|---|---|---|---|---|---|");
-    for call in CALLS {
+    for &call in calls {
         for kind in KINDS {
             let mut before = (0.0, 0.0);
             for n in SIZES {
@@ -320,29 +321,36 @@ fn print_stack() {
     }
 }
 
-/// What callgrind counts.
+/// What callgrind counts: the program ends inside, so that nothing after it is counted.
 #[inline(never)]
-fn counted(caller: Caller, call: &str, jobs: &[Job], room: &mut Room) {
+fn counted(caller: Caller, call: &str, jobs: &[Job], room: &mut Room) -> ! {
     for job in jobs {
         std::hint::black_box(caller(call, job, room));
     }
-    std::hint::black_box(room);
+    // Safety: nothing is to be flushed.
+    unsafe { _exit(0) }
 }
 
 fn main() {
     let words: Vec<String> = std::env::args().skip(1).collect();
     let words: Vec<&str> = words.iter().map(|w| w.as_str()).collect();
     match words[..] {
-        ["table"] => print_table(),
+        ["table"] => print_table(&CALLS),
+        ["table", call] => print_table(&[call]),
         ["stack"] => print_stack(),
         ["count", call, kind, n, who] => {
             let jobs = jobs(kind, n.parse().expect("N is a number"));
             agree(call, &jobs);
             counted(if who == "library" { library } else { ordinary_call }, call, &jobs, &mut Room::new());
         }
+        ["spin", call, kind, n, who] => {
+            let jobs = jobs(kind, n.parse().expect("N is a number"));
+            let caller = if who == "library" { library } else { ordinary_call };
+            once(caller, call, &jobs, 20_000, &mut Room::new());
+        }
         ["tables"] => println!("{TABLES}"),
         _ => {
-            eprintln!("usage: bench table | stack | tables | count CALL KIND N library|ordinary");
+            eprintln!("usage: bench table [CALL] | stack | tables | count|spin CALL KIND N library|ordinary");
             std::process::exit(2);
         }
     }

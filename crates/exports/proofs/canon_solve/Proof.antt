@@ -8,54 +8,42 @@ use Rattle.exports.proofs.canon_solve.Tie as tie
 use Rattle.canon.specs.Answers.{said}
 use Rattle.exports.specs.Told.{gave, kept-back}
 
--- src/lib.rt:20:9
 solve-requires : tie.Need-solve-requires
 solve-requires c κs = search needs
 
--- src/lib.rt:22:21
 enum-known-answer : tie.Need-enum-known-answer
 enum-known-answer c = search needs
 
--- src/lib.rt:26:25
 enum-known-answer-2 : tie.Need-enum-known-answer-2
 enum-known-answer-2 c = search needs
 
--- src/lib.rt:26:37
 number-requires : tie.Need-number-requires
 number-requires c κs = search needs
 
--- src/lib.rt:9:1
 same-length : tie.Need-same-length
 same-length c = search needs
 
--- src/lib.rt:9:1
 same-length-2 : tie.Need-same-length-2
 same-length-2 c = search needs
 
--- src/lib.rt:9:1
 same-length-3 : tie.Need-same-length-3
 same-length-3 c = search needs
 
--- src/lib.rt:9:1
 returns : tie.Need-returns
 returns c =
     let s = c .before .before .before .before .before .before .before .before .solve in
     let fits : SFits w32 (c .before .answer .given .0 .0) = search needs in
     record { answer = s .result; promised = s .ensures; told = gave _ (ap said (c .before .answer .given .1)) refl (toZ-ofZ fits) }
 
--- src/lib.rt:9:1
 same-length-4 : tie.Need-same-length-4
 same-length-4 c = search needs
 
--- src/lib.rt:9:1
 same-length-5 : tie.Need-same-length-5
 same-length-5 c = search needs
 
--- src/lib.rt:9:1
 same-length-6 : tie.Need-same-length-6
 same-length-6 c = search needs
 
--- src/lib.rt:9:1
 returns-2 : tie.Need-returns-2
 returns-2 c =
     let s = c .before .before .before .before .before .before .before .before .before .solve in

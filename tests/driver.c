@@ -130,13 +130,13 @@ static uint32_t call(uint8_t number, size_t n, struct part *p) {
                                 SLICE(int32_t, 4), SINGLE(int32_t, 5));
     case 4:
         return canon_is_simplest(n, SLICE(int16_t, 0), SLICE(uint32_t, 1), SINGLE(uint8_t, 2));
-#ifndef WITHOUT_SHEETS
     case 5:
         return canon_read_sheet(SLICE(uint8_t, 0), SLICE(int16_t, 1), SLICE(uint8_t, 2), SLICE(uint8_t, 3),
                                 SINGLE(size_t, 4), SINGLE(size_t, 5));
     case 6:
         return canon_write_sheet(n, SLICE(int16_t, 0), SLICE(uint8_t, 1), SLICE(uint8_t, 2), SLICE(uint8_t, 3),
                                  SINGLE(size_t, 4));
+#ifndef WITHOUT_PRINT
     case 7:
         return canon_print(SLICE(uint8_t, 0), SLICE(uint8_t, 1), SINGLE(size_t, 2));
 #endif

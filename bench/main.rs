@@ -1,6 +1,6 @@
 //! Times the library's calls beside an ordinary implementation of the same answers, in one run.
 //!
-//! bench table [CALL]: the table of times, each the median of repeats and of the processor's time alone. bench stack: the stack that each call uses.
+//! bench times [CALL]: the times in microseconds, the library's and the ordinary ones, each the median of repeats and of the processor's time alone. bench stack: the stack that each call uses.
 //! bench count CALL KIND N WHO: the call on every table once, inside the function `counted`, for callgrind. bench tables:
 //! how many tables that is. bench spin CALL KIND N WHO: the same many times over, for a sampling profiler. The answers of the two are compared first.
 
@@ -276,41 +276,38 @@ fn measure(call: &str, jobs: &[Job]) -> (f64, f64) {
     (median(pairs.0), median(pairs.1))
 }
 
-fn print_table(calls: &[&str]) {
-    println!("| call | tables | N | library µs | ordinary µs | ratio | growth 16 → 32, library | ordinary |");
-    println!("|---|---|---|---|---|---|---|---|");
+/// A line for each call, kind and size: the library's and the ordinary time.
+fn print_times(calls: &[&str]) {
     for &call in calls {
         for kind in KINDS {
-            let mut before = (0.0, 0.0);
             for n in SIZES {
                 let jobs = jobs(kind, n);
                 agree(call, &jobs);
                 let (own, other) = measure(call, &jobs);
-                let growth = if n == 32 { format!("{:.1} | {:.1}", own / before.0, other / before.1) } else { " | ".to_string() };
-                println!("| {call} | {kind} | {n} | {own:.2} | {other:.2} | {:.2} | {growth} |", own / other);
-                before = (own, other);
+                println!("{call} {kind} {n} {own:.2} {other:.2}");
             }
         }
     }
 }
 
-/// The stack that a call uses: the room below is painted, and after the call the lowest byte that changed is sought.
+/// The stack that a call uses at most: the room below this function's own frame is painted, and after the call the lowest byte that changed is sought.
 #[inline(never)]
 fn stack_of(call: &str, job: &Job, room: &mut Room) -> usize {
     const DEPTH: usize = 256 * 1024;
+    const OWN: usize = 512;
     let here = 0u8;
-    let top = std::hint::black_box(&here as *const u8 as usize) - 512;
+    let top = std::hint::black_box(&here as *const u8 as usize) - OWN;
     for at in top - DEPTH..top {
         // Safety: the thread's stack reaches far below; no frame is there.
         unsafe { std::ptr::write_volatile(at as *mut u8, 0xA5) };
     }
     library(call, job, room);
     let untouched = (top - DEPTH..top).take_while(|&at| unsafe { std::ptr::read_volatile(at as *const u8) } == 0xA5);
-    DEPTH - untouched.count()
+    DEPTH - untouched.count() + OWN
 }
 
 fn print_stack() {
-    println!("| call | stack, bytes |\n|---|---|");
+    println!("| call | stack at most, bytes |\n|---|---|");
     for call in CALLS {
         let most = std::thread::Builder::new().stack_size(4 << 20).spawn(move || {
             let mut room = Room::new();
@@ -335,8 +332,8 @@ fn main() {
     let words: Vec<String> = std::env::args().skip(1).collect();
     let words: Vec<&str> = words.iter().map(|w| w.as_str()).collect();
     match words[..] {
-        ["table"] => print_table(&CALLS),
-        ["table", call] => print_table(&[call]),
+        ["times"] => print_times(&CALLS),
+        ["times", call] => print_times(&[call]),
         ["stack"] => print_stack(),
         ["count", call, kind, n, who] => {
             let jobs = jobs(kind, n.parse().expect("N is a number"));
@@ -350,7 +347,7 @@ fn main() {
         }
         ["tables"] => println!("{TABLES}"),
         _ => {
-            eprintln!("usage: bench table [CALL] | stack | tables | count|spin CALL KIND N library|ordinary");
+            eprintln!("usage: bench times [CALL] | stack | tables | count|spin CALL KIND N library|ordinary");
             std::process::exit(2);
         }
     }

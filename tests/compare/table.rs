@@ -1,0 +1,77 @@
+//! A table of orders, and document 01's words about it, each by its definition.
+
+pub const ABSENT: i16 = -32768;
+
+#[derive(Clone, PartialEq, Eq, Debug)]
+pub struct Table {
+    pub n: usize,
+    pub entries: Vec<i16>,
+}
+
+/// The whole answer: stars are columns from 1.
+#[derive(Clone, PartialEq, Eq, Debug)]
+pub struct Solved {
+    pub additions: Vec<u32>,
+    pub stars: Vec<u32>,
+    pub heads: Vec<i32>,
+    pub sum: i32,
+}
+
+impl Table {
+    pub fn empty(n: usize) -> Table {
+        Table { n, entries: vec![ABSENT; n * n] }
+    }
+
+    pub fn order(&self, i: usize, j: usize) -> Option<i32> {
+        let entry = self.entries[i * self.n + j];
+        if entry == ABSENT { None } else { Some(entry as i32) }
+    }
+
+    pub fn set(&mut self, i: usize, j: usize, order: i64) {
+        self.entries[i * self.n + j] = order as i16;
+    }
+
+    /// A column's head: the largest raised order in it.
+    pub fn head(&self, additions: &[u32], j: usize) -> Option<i32> {
+        (0..self.n).filter_map(|i| Some(self.order(i, j)? + additions[i] as i32)).max()
+    }
+
+    pub fn heads(&self, additions: &[u32]) -> Option<Vec<i32>> {
+        (0..self.n).map(|j| self.head(additions, j)).collect()
+    }
+
+    /// Is the place a column maximum?
+    pub fn maximum(&self, additions: &[u32], heads: &[i32], i: usize, j: usize) -> bool {
+        self.order(i, j).is_some_and(|order| order + additions[i] as i32 == heads[j])
+    }
+
+    /// The total of a transversal's orders as they stand; nothing if one is absent.
+    pub fn total(&self, columns: &[usize]) -> Option<i32> {
+        columns.iter().enumerate().map(|(i, &j)| self.order(i, j)).sum()
+    }
+
+    /// The least additions, none below its floor, under which every place of the transversal is a column maximum; nothing
+    /// if there are none. (Each row is raised as far as an order of its star's column asks; if rows still rise after N
+    /// rounds they rise for ever.)
+    pub fn least_by(&self, columns: &[usize], floors: &[u32]) -> Option<Vec<u32>> {
+        let mut additions: Vec<i64> = floors.iter().map(|&v| v as i64).collect();
+        for _ in 0..=self.n {
+            let mut still = true;
+            for (i, &j) in columns.iter().enumerate() {
+                let own = self.order(i, j)? as i64;
+                for k in 0..self.n {
+                    let Some(other) = self.order(k, j) else { continue };
+                    let wanted = other as i64 + additions[k] - own;
+                    if wanted > additions[i] {
+                        additions[i] = wanted;
+                        still = false;
+                    }
+                }
+            }
+            if still {
+                return Some(additions.iter().map(|&v| v as u32).collect());
+            }
+        }
+        None
+    }
+}

@@ -1,0 +1,143 @@
+//! The stored vectors: document 01's tables and the squares printed in the sources.
+//!
+//! A case is `case NAME`, the table's rows (`row 2 - 0`, absent as `-`), then what must come out of the table alone
+//! (`adds`, `stars`, `heads`, `sum`, as far as the source prints them, or `refused`), then what must come of lists handed
+//! in: `from-canon LIST`, `from-stars LIST` (the table's own answer, or `: refused NUMBER`), `simplest LIST : yes`, `: no`
+//! or `: refused NUMBER`. `all VALUE N` stands for N rows of one value; `#` starts a comment.
+
+use crate::certificate;
+use crate::chance::Chance;
+use crate::table::{Solved, Table, ABSENT};
+use crate::tables::request;
+use crate::wire::{Answer, Call, Driver};
+
+#[derive(Default)]
+struct Case {
+    name: String,
+    rows: Vec<Vec<i16>>,
+    adds: Option<Vec<u32>>,
+    stars: Option<Vec<u32>>,
+    heads: Option<Vec<i32>>,
+    sum: Option<i32>,
+    refused: u32,
+    tries: Vec<(Call, Vec<u32>, String)>,
+}
+
+fn numbers<T: std::str::FromStr>(words: &str) -> Vec<T> {
+    let number = |word: &str| word.parse().unwrap_or_else(|_| panic!("no number in the vectors: {word}"));
+    words.split_whitespace().map(number).collect()
+}
+
+fn entries(words: &str) -> Vec<i16> {
+    words.split_whitespace().flat_map(|w| if w == "-" { vec![ABSENT] } else { numbers(w) }).collect()
+}
+
+impl Case {
+    fn take(&mut self, word: &str, rest: &str) {
+        let (list, outcome) = rest.split_once(':').map_or((rest, "same"), |(l, o)| (l, o.trim()));
+        match word {
+            "row" => self.rows.push(entries(rest)),
+            "all" => {
+                let words: Vec<usize> = numbers(rest);
+                self.rows = vec![vec![words[0] as i16; words[1]]; words[1]];
+            }
+            "adds" => self.adds = Some(numbers(rest)),
+            "stars" => self.stars = Some(numbers(rest)),
+            "heads" => self.heads = Some(numbers(rest)),
+            "sum" => self.sum = numbers(rest).pop(),
+            "refused" => self.refused = numbers(rest)[0],
+            "from-canon" => self.tries.push((Call::FromCanon, numbers(list), outcome.to_string())),
+            "from-stars" => self.tries.push((Call::FromStars, numbers(list), outcome.to_string())),
+            "simplest" => self.tries.push((Call::IsSimplest, numbers(list), outcome.to_string())),
+            _ => panic!("the vectors have no word {word}"),
+        }
+    }
+
+    fn table(&self) -> Table {
+        Table { n: self.rows.len(), entries: self.rows.concat() }
+    }
+}
+
+fn parse(text: &str) -> Vec<Case> {
+    let mut cases: Vec<Case> = Vec::new();
+    for line in text.lines().map(|line| line.split('#').next().unwrap_or("").trim()).filter(|line| !line.is_empty()) {
+        let (word, rest) = line.split_once(' ').unwrap_or((line, ""));
+        if word == "case" {
+            cases.push(Case { name: rest.to_string(), ..Case::default() });
+        } else {
+            cases.last_mut().expect("a case comes first").take(word, rest);
+        }
+    }
+    cases
+}
+
+/// The four results in the parts of an answer from `first` on.
+pub fn solved_in(answer: &Answer, first: usize) -> Solved {
+    Solved {
+        additions: answer.parts[first].as_numbers(),
+        stars: answer.parts[first + 1].as_numbers(),
+        heads: answer.parts[first + 2].as_signed(),
+        sum: answer.parts[first + 3].as_signed()[0],
+    }
+}
+
+fn differs<T: PartialEq>(wanted: &Option<T>, found: &T) -> bool {
+    wanted.as_ref().is_some_and(|wanted| wanted != found)
+}
+
+/// What is wrong with the answer to the table alone.
+fn fault_alone(case: &Case, answer: &Answer) -> Option<String> {
+    if answer.status != case.refused {
+        return Some(format!("status {} where {} is wanted", answer.status, case.refused));
+    }
+    if case.refused != 0 {
+        return None;
+    }
+    let solved = solved_in(answer, 1);
+    let other = differs(&case.adds, &solved.additions)
+        || differs(&case.stars, &solved.stars)
+        || differs(&case.heads, &solved.heads)
+        || differs(&case.sum, &solved.sum);
+    if other {
+        return Some(format!("another answer than is printed: {solved:?}"));
+    }
+    certificate::fault(&case.table(), &solved).map(|fault| fault.to_string())
+}
+
+fn fault_of_try(call: Call, outcome: &str, alone: &Answer, answer: &Answer) -> Option<String> {
+    let wanted = match outcome.strip_prefix("refused ") {
+        Some(number) => numbers(number)[0],
+        None => 0,
+    };
+    if answer.status != wanted {
+        return Some(format!("status {} where {wanted} is wanted", answer.status));
+    }
+    let right = match (wanted, call) {
+        (0, Call::IsSimplest) => answer.parts[2].bytes == [(outcome == "yes") as u8],
+        (0, _) => solved_in(answer, 2) == solved_in(alone, 1),
+        _ => true,
+    };
+    if right { None } else { Some(format!("another answer than {outcome}")) }
+}
+
+/// Runs all vectors; gives their number and prints what fails.
+pub fn run(driver: &mut Driver, text: &str, failures: &mut usize) -> usize {
+    let mut chance = Chance::new(1);
+    let mut count = 0;
+    for case in parse(text) {
+        let table = case.table();
+        let mut requests = vec![request(&mut chance, Call::Solve, &table, &[])];
+        requests.extend(case.tries.iter().map(|(call, given, _)| request(&mut chance, *call, &table, given)));
+        let answers = driver.ask(&requests);
+        let mut faults = vec![fault_alone(&case, &answers[0])];
+        for ((call, _, outcome), answer) in case.tries.iter().zip(&answers[1..]) {
+            faults.push(fault_of_try(*call, outcome, &answers[0], answer));
+        }
+        for (fault, request) in faults.iter().zip(&requests).filter_map(|(f, r)| Some((f.as_ref()?, r))) {
+            println!("vector {}: {fault}\n{}", case.name, request.describe());
+            *failures += 1;
+        }
+        count += requests.len();
+    }
+    count
+}

@@ -214,7 +214,7 @@ found-within {n} t adds stars heads {s} few square entries sol =
       head-least = λ j hj. head-low n (entry t n) w hj (sol .heads j hj);
       head-most = λ j hj. omega (arith, signed, head-high n (entry t n) {B = 0} w (sol .additions) (λ i hi. omega arith) hj (sol .heads j hj));
       sum-least = rw (sol .is-sum) (omega (arith, signed, sum-low n (entry t n) w tr, below-zero (n * 100)));
-      sum-most = rw (sol .is-sum) (omega (arith, signed, sum-high n (entry t n) w tr))
+      sum-most = rw (sol .is-sum) (omega (arith, signed, sum-high n (entry t n) w tr));
     }
   where
     w : WithinLimit order n (entry t n)

@@ -386,7 +386,7 @@ right c t =
       few = leb→le (c .size) rows (every-told (case-tests c) t 1);
       square = eqb→eq (length (c .table)) (c .size * c .size) (every-told (case-tests c) t 2);
       entries = λ k hk p. orders (getD (c .table) k (pos 0)) (all-told (length (c .table)) (λ k. within (getD (c .table) k (pos 0))) (every-told (case-tests c) t 3) k hk) p;
-      comes = comes-told (c .size) (entry (c .table) (c .size)) (c .handed) (c .outcome) (every-told (case-tests c) t 4)
+      comes = comes-told (c .size) (entry (c .table) (c .size)) (c .handed) (c .outcome) (every-told (case-tests c) t 4);
     }
   where
     orders : (v : ℤ) → T (within v) → Present v → Order order v

@@ -4,7 +4,8 @@ use native.Mathlib.Omega.{arith}
 use Prim.Native.Nat.{ℕ, _+_, _-_, _*_, _≤_, _<_}
 use mathlib.Core.Path.{_≡_, refl, sym, ap, subst, _∙_}
 use lib.ListN.{length, getD, set, take, drop, length-set, length-append, length-drop}
-use Rattle.writer.proofs.OrderLaws.{text-99, text-4, count-le, square-few}
+use Rattle.writer.proofs.OrderLaws.{count-le, square-few}
+use Rattle.lettering.proofs.TextLaws.{text-within}
 use Rattle.sheet.specs.Text.{text}
 use Rattle.sheet.specs.Sheet.{presentCount}
 use Rattle.writer.proofs.SheetLaws.{sheet-text-length}
@@ -16,19 +17,19 @@ digits-requires : tie.Need-digits-requires
 digits-requires c κs = search needs
 
 add-head : tie.Need-add-head
-add-head c = omega (arith, c .digits .ensures, text-99 (c .before .before .before .args .n) (omega (arith, c .before .before .before .pre .0 .few)))
+add-head c = omega (arith, c .digits .ensures, text-within 1 (c .before .before .before .args .n) (omega (arith, c .before .before .before .pre .0 .few)))
 
 labels-length-requires : tie.Need-labels-length-requires
 labels-length-requires c κs = (c .before .before .before .pre .0 .few, c .before .before .before .pre .1)
 
 add-a : tie.Need-add-a
-add-a c = omega (arith, c .before .digits .ensures, text-99 (c .before .before .before .before .args .n) (omega (arith, c .before .before .before .before .pre .0 .few)), c .labels-length .ensures .1, c .before .before .before .before .pre .0 .few)
+add-a c = omega (arith, c .before .digits .ensures, text-within 1 (c .before .before .before .before .args .n) (omega (arith, c .before .before .before .before .pre .0 .few)), c .labels-length .ensures .1, c .before .before .before .before .pre .0 .few)
 
 labels-length-requires-2 : tie.Need-labels-length-requires-2
 labels-length-requires-2 c κs = (c .before .before .before .before .pre .0 .few, c .before .before .before .before .pre .2)
 
 add-b : tie.Need-add-b
-add-b c = omega (arith, c .before .before .digits .ensures, text-99 (c .before .before .before .before .before .args .n) (omega (arith, c .before .before .before .before .before .pre .0 .few)), c .labels-length2 .ensures .1, c .before .before .before .before .before .pre .0 .few)
+add-b c = omega (arith, c .before .before .digits .ensures, text-within 1 (c .before .before .before .before .before .args .n) (omega (arith, c .before .before .before .before .before .pre .0 .few)), c .labels-length2 .ensures .1, c .before .before .before .before .before .pre .0 .few)
 
 present-count-requires : tie.Need-present-count-requires
 present-count-requires c κs = search needs
@@ -37,19 +38,19 @@ digits-requires-2 : tie.Need-digits-requires-2
 digits-requires-2 c κs = search needs
 
 add-c : tie.Need-add-c
-add-c c = omega (arith, c .digits2 .ensures, ap (λ x. length (text x)) (c .before .present-count .ensures), text-4 (presentCount (c .before .before .before .before .before .before .before .args .table .now)) (omega (arith, count-le (c .before .before .before .before .before .before .before .args .table .now), square-few (c .before .before .before .before .before .before .before .args .n) (c .before .before .before .before .before .before .before .pre .0 .few), c .before .before .before .before .before .before .before .pre .0 .square)))
+add-c c = omega (arith, c .digits2 .ensures, ap (λ x. length (text x)) (c .before .present-count .ensures), text-within 3 (presentCount (c .before .before .before .before .before .before .before .args .table .now)) (omega (arith, count-le (c .before .before .before .before .before .before .before .args .table .now), square-few (c .before .before .before .before .before .before .before .args .n) (c .before .before .before .before .before .before .before .pre .0 .few), c .before .before .before .before .before .before .before .pre .0 .square)))
 
 orders-length-requires : tie.Need-orders-length-requires
 orders-length-requires c κs = c .before .before .before .before .before .before .before .pre .0
 
 add-c-2 : tie.Need-add-c-2
-add-c-2 c = omega (arith, c .before .digits2 .ensures, ap (λ x. length (text x)) (c .before .before .present-count .ensures), text-4 (presentCount (c .before .before .before .before .before .before .before .before .args .table .now)) (omega (arith, count-le (c .before .before .before .before .before .before .before .before .args .table .now), square-few (c .before .before .before .before .before .before .before .before .args .n) (c .before .before .before .before .before .before .before .before .pre .0 .few), c .before .before .before .before .before .before .before .before .pre .0 .square)), c .orders-length .ensures .1)
+add-c-2 c = omega (arith, c .before .digits2 .ensures, ap (λ x. length (text x)) (c .before .before .present-count .ensures), text-within 3 (presentCount (c .before .before .before .before .before .before .before .before .args .table .now)) (omega (arith, count-le (c .before .before .before .before .before .before .before .before .args .table .now), square-few (c .before .before .before .before .before .before .before .before .args .n) (c .before .before .before .before .before .before .before .before .pre .0 .few), c .before .before .before .before .before .before .before .before .pre .0 .square)), c .orders-length .ensures .1)
 
 add-result : tie.Need-add-result
-add-result c = omega (arith, c .before .before .before .before .before .digits .ensures, text-99 (c .before .before .before .before .before .before .before .before .args .n) (omega (arith, c .before .before .before .before .before .before .before .before .pre .0 .few)), c .before .before .before .before .labels-length .ensures .1, c .before .before .before .labels-length2 .ensures .1, c .before .before .before .before .before .before .before .before .pre .0 .few)
+add-result c = omega (arith, c .before .before .before .before .before .digits .ensures, text-within 1 (c .before .before .before .before .before .before .before .before .args .n) (omega (arith, c .before .before .before .before .before .before .before .before .pre .0 .few)), c .before .before .before .before .labels-length .ensures .1, c .before .before .before .labels-length2 .ensures .1, c .before .before .before .before .before .before .before .before .pre .0 .few)
 
 add-result-2 : tie.Need-add-result-2
-add-result-2 c = omega (arith, c .before .before .before .before .before .digits .ensures, text-99 (c .before .before .before .before .before .before .before .before .args .n) (omega (arith, c .before .before .before .before .before .before .before .before .pre .0 .few)), c .before .before .before .before .labels-length .ensures .1, c .before .before .before .labels-length2 .ensures .1, c .before .before .before .before .before .before .before .before .pre .0 .few, c .before .digits2 .ensures, ap (λ x. length (text x)) (c .before .before .present-count .ensures), text-4 (presentCount (c .before .before .before .before .before .before .before .before .args .table .now)) (omega (arith, count-le (c .before .before .before .before .before .before .before .before .args .table .now), square-few (c .before .before .before .before .before .before .before .before .args .n) (c .before .before .before .before .before .before .before .before .pre .0 .few), c .before .before .before .before .before .before .before .before .pre .0 .square)), c .orders-length .ensures .1)
+add-result-2 c = omega (arith, c .before .before .before .before .before .digits .ensures, text-within 1 (c .before .before .before .before .before .before .before .before .args .n) (omega (arith, c .before .before .before .before .before .before .before .before .pre .0 .few)), c .before .before .before .before .labels-length .ensures .1, c .before .before .before .labels-length2 .ensures .1, c .before .before .before .before .before .before .before .before .pre .0 .few, c .before .digits2 .ensures, ap (λ x. length (text x)) (c .before .before .present-count .ensures), text-within 3 (presentCount (c .before .before .before .before .before .before .before .before .args .table .now)) (omega (arith, count-le (c .before .before .before .before .before .before .before .before .args .table .now), square-few (c .before .before .before .before .before .before .before .before .args .n) (c .before .before .before .before .before .before .before .before .pre .0 .few), c .before .before .before .before .before .before .before .before .pre .0 .square)), c .orders-length .ensures .1)
 
 returns : tie.Need-returns
 returns c = omega (

@@ -4,11 +4,11 @@ use native.Mathlib.Omega.{arith}
 use Prim.Native.Nat.{ℕ, _+_, _-_, _*_, _≤_, _<_}
 use mathlib.Core.Path.{_≡_, refl, sym, ap, subst, _∙_}
 use lib.ListN.{length, getD, set, take, drop, length-set, length-append, length-drop}
-use Rattle.writer.proofs.PutLaws.{byte-inside, byte-fits, byte-room, puts-byte}
+use Rattle.lettering.proofs.PutLaws.{byte-inside, byte-fits, byte-room, puts-byte}
 use Rattle.sheet.specs.Text.{text}
 use borrow.Author.Needs.{needs}
-use Rattle.writer.proofs.put_count.Statement.{statement}
-use Rattle.writer.proofs.put_count.Tie as tie
+use Rattle.lettering.proofs.put_count.Statement.{statement}
+use Rattle.lettering.proofs.put_count.Tie as tie
 
 put-number-requires : tie.Need-put-number-requires
 put-number-requires c κs = omega (arith, byte-room (text (c .before .before .args .v)) (c .before .before .args .last) (c .before .before .args .out .now) ((c .before .before .pre)))

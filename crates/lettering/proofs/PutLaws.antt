@@ -10,7 +10,7 @@ use Rattle.sheet.specs.Text.{over, text, ended}
 use Rattle.sheet.proofs.Numbers.{text-small, text-large}
 use mir.Syntax.{w64}
 use mir.Val.{Fits}
-use Rattle.writer.specs.Parts.{Puts}
+use Rattle.lettering.specs.Putting.{Puts}
 
 pub over-length : {A : Type 0} (a o : List A) → length a ≤ length o → length (over a o) ≡ length o
 over-length a o h = length-append a (drop (length a) o) ∙ omega (arith, length-drop (length a) o)

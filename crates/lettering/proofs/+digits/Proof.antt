@@ -1,7 +1,7 @@
 -- The digits of a number are counted from its tens. Assumes nothing.
 use borrow.Author.Needs.{needs}
 use native.Mathlib.Omega.{arith}
-use Rattle.writer.proofs.OrderLaws.{text-length, digits-more}
+use Rattle.lettering.proofs.TextLaws.{text-length, digits-more}
 use Prim.Native.Nat.{_+_, _/_}
 use mathlib.Core.Path.{sym, ap, _∙_}
 use lib.ListN.{length}
@@ -9,11 +9,11 @@ use Rattle.sheet.proofs.Numbers.{text-small}
 use Prim.Native.Nat.{ℕ, _<_}
 use borrow.Fn.Kinds.{In}
 use borrow.Fn.PlainCycle.{Measures, is, falls, and}
-use Rattle.writer.proofs.digits.Reads as digits
-use Rattle.writer.proofs.digits.Kinds as digits-kinds
-use Rattle.writer.proofs.+digits.Lts-digits as digits-lts
-use Rattle.writer.proofs.+digits.{statement}
-use Rattle.writer.proofs.+digits.Tie.{close}
+use Rattle.lettering.proofs.digits.Reads as digits
+use Rattle.lettering.proofs.digits.Kinds as digits-kinds
+use Rattle.lettering.proofs.+digits.Lts-digits as digits-lts
+use Rattle.lettering.proofs.+digits.{statement}
+use Rattle.lettering.proofs.+digits.Tie.{close}
 
 abbrev μ-digits : Measures 0 digits-kinds.ps ℕ
 μ-digits κs a = a .0

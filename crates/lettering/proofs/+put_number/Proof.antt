@@ -1,21 +1,21 @@
 -- A number is written after its tens. Assumes nothing.
 use borrow.Author.Needs.{needs}
 use native.Mathlib.Omega.{arith}
-use Rattle.writer.proofs.OrderLaws.{text-length, digits-more}
+use Rattle.lettering.proofs.TextLaws.{text-length, digits-more}
 use Prim.Native.Nat.{_+_, _/_}
 use mathlib.Core.Path.{sym, ap, _∙_}
 use lib.ListN.{length, length-set}
 use Rattle.sheet.proofs.Numbers.{text-small, text-some}
 use Rattle.sheet.specs.Text.{text}
-use Rattle.writer.proofs.PutLaws.{number-one, number-more, puts-length}
+use Rattle.lettering.proofs.PutLaws.{number-one, number-more, puts-length}
 use Prim.Native.Nat.{ℕ, _<_}
 use borrow.Fn.Kinds.{In}
 use borrow.Fn.PlainCycle.{Measures, is, falls, and}
-use Rattle.writer.proofs.put_number.Reads as put-number
-use Rattle.writer.proofs.put_number.Kinds as put-number-kinds
-use Rattle.writer.proofs.+put_number.Lts-put_number as put-number-lts
-use Rattle.writer.proofs.+put_number.{statement}
-use Rattle.writer.proofs.+put_number.Tie.{close}
+use Rattle.lettering.proofs.put_number.Reads as put-number
+use Rattle.lettering.proofs.put_number.Kinds as put-number-kinds
+use Rattle.lettering.proofs.+put_number.Lts-put_number as put-number-lts
+use Rattle.lettering.proofs.+put_number.{statement}
+use Rattle.lettering.proofs.+put_number.Tie.{close}
 
 abbrev μ-put-number : Measures 1 put-number-kinds.ps ℕ
 μ-put-number κs a = a .0

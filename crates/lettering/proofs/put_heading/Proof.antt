@@ -4,12 +4,12 @@ use native.Mathlib.Omega.{arith}
 use Prim.Native.Nat.{ℕ, _+_, _-_, _*_, _≤_, _<_}
 use mathlib.Core.Path.{_≡_, refl, sym, ap, subst, _∙_}
 use lib.ListN.{length, getD, set, take, drop, length-set, length-append, length-drop}
-use Rattle.writer.proofs.PutLaws.{puts-inside, puts-tail, puts-same, left-room, sum-fits, part-room, first-room, puts-length}
+use Rattle.lettering.proofs.PutLaws.{puts-inside, puts-tail, puts-same, left-room, sum-fits, part-room, first-room, puts-length}
 use mathlib.Core.List.{[], _∷_, _++_, append-assoc}
 use Rattle.sheet.specs.Text.{text}
 use borrow.Author.Needs.{needs}
-use Rattle.writer.proofs.put_heading.Statement.{statement}
-use Rattle.writer.proofs.put_heading.Tie as tie
+use Rattle.lettering.proofs.put_heading.Statement.{statement}
+use Rattle.lettering.proofs.put_heading.Tie as tie
 
 put-requires : tie.Need-put-requires
 put-requires c κs = omega (arith, (c .before .before .before .pre), ap length (append-assoc (c .before .before .before .args .head .now) (text (c .before .before .before .args .count)) (10 ∷ [])), length-append (c .before .before .before .args .head .now) (text (c .before .before .before .args .count) ++ 10 ∷ []))

@@ -7,8 +7,8 @@ use lib.ListN.{length, getD, set, take, drop, length-set, length-append, length-
 use mathlib.Core.List.{_++_}
 use Rattle.sheet.proofs.Bytes.{copy-next}
 use lib.Seq.{take-length}
-use Rattle.writer.proofs.put.Statement.{statement}
-use Rattle.writer.proofs.put.Tie as tie
+use Rattle.lettering.proofs.put.Statement.{statement}
+use Rattle.lettering.proofs.put.Tie as tie
 
 abbrev Inv-loop : tie.InvT-loop
 Inv-loop text out₀ i₀ out i = (i ≤ length text) × (length text ≤ length out₀) × (length out ≡ length out₀) × (out ≡ take i text ++ drop i out₀)

@@ -1,4 +1,3 @@
-pub mod PutLaws
 pub mod SlotLaws
 pub mod OrderLaws
 pub mod SheetLaws

@@ -22,41 +22,12 @@ use Rattle.theory.specs.Table.{Order}
 use Rattle.theory.proofs.Signed.{signed as signs}
 use Rattle.sheet.specs.Text.{text, signed, ended, blank}
 use Rattle.sheet.specs.Sheet.{isAbsent, presentCount, orderText, orderLine, orderLines}
-use Rattle.sheet.proofs.Numbers.{text-small, text-large, by-tens}
+use Rattle.lettering.proofs.TextLaws.{text-within}
 use Rattle.sheet.proofs.Orders.{lines-append, count-append, row-inside}
 
--- a number's length: never more than the number and one, and one digit more for each ten times
-pub text-length : (n : ℕ) → length (text n) ≤ n + 1
-text-length =
-    by-tens (λ n. length (text n) ≤ n + 1) (λ n h. rw (text-small n h) (omega arith))
-    (λ n h ih. rw (text-large n h) (omega (arith, length-append (text (n / 10)) ((48 + n % 10) ∷ []))))
-
-text-step : (b k : ℕ) → 1 ≤ k → ((m : ℕ) → m < b → length (text m) ≤ k) → (n : ℕ) → n < b * 10 → length (text n) ≤ k + 1
-text-step b k one f n h = go (decLt n 10)
-  where
-    go : Dec (n < 10) → length (text n) ≤ k + 1
-    go (yes g) = rw (text-small n g) (omega arith)
-    go (no g) =
-        rw (text-large n (omega arith)) (omega (arith, length-append (text (n / 10)) ((48 + n % 10) ∷ []), f (n / 10) (omega arith)))
-
-text-1 : (n : ℕ) → n < 10 → length (text n) ≤ 1
-text-1 n h = rw (text-small n h) (omega arith)
-
-text-2 : (n : ℕ) → n < 100 → length (text n) ≤ 2
-text-2 n h = text-step 10 1 (omega arith) text-1 n h
-
-text-3 : (n : ℕ) → n < 1000 → length (text n) ≤ 3
-text-3 n h = text-step 100 2 (omega arith) text-2 n h
-
-pub text-4 : (n : ℕ) → n < 10000 → length (text n) ≤ 4
-text-4 n h = text-step 1000 3 (omega arith) text-3 n h
-
-pub text-99 : (n : ℕ) → n < 100 → length (text n) ≤ 2
-text-99 n h = text-2 n h
-
 pub signed-short : (v : ℤ) → Order order v → length (signed v) ≤ 4
-signed-short (pos n) o = omega (arith, text-3 n (omega (arith, signs, o .high)))
-signed-short (negsuc n) o = omega (arith, text-3 (suc n) (omega (arith, signs, o .low)))
+signed-short (pos n) o = omega (arith, text-within 2 n (omega (arith, signs, o .high)))
+signed-short (negsuc n) o = omega (arith, text-within 2 (suc n) (omega (arith, signs, o .low)))
 
 -- the length of an order's line
 pub order-text-length : (i j : ℕ) (v : ℤ) → length (ended (orderText i j v)) ≡ length (text (i + 1)) + length (text (j + 1)) + length (signed v) + 3
@@ -99,39 +70,10 @@ front-lines n k t =
     ap (λ x. orderLines n 0 x) (sym (take-append-drop k t)) ∙ lines-append n 0 (take k t) (drop k t) in
     omega (arith, ap length e, length-append (orderLines n 0 (take k t)) (orderLines n (0 + length (take k t)) (drop k t)))
 
--- a number's two ways: ten and more, or one digit
-pub digits-more : (v : ℕ) → 10 ≤ v → length (text v) ≡ length (text (v / 10)) + 1
-digits-more v h = ap length (text-large v h) ∙ length-append (text (v / 10)) ((48 + v % 10) ∷ [])
-
 -- an order without its sign
 pub size-low : (v : ℤ) → Order order v → natAbs v ≤ order
 size-low (pos n) o = omega (arith, signs, o .high)
 size-low (negsuc n) o = omega (arith, signs, o .low)
-
-pub order-fits : (v : ℤ) → Order order v → SFits w16 v
-order-fits (pos n) o = record { sfits = omega (arith, signs, o .high) }
-order-fits (negsuc n) o = record { sfits = omega (arith, signs, o .low) }
-
-pub minus-fits : (v : ℤ) → Order order v → ltZ v (pos 0) ≡ true → SFits w16 (pos 0 -ℤ v)
-minus-fits (pos n) o t = absurd (omega (arith, signs, t))
-minus-fits (negsuc n) o t = rw +ℤ-idl (record { sfits = omega (arith, signs, o .low) })
-
-pub minus-is : (v : ℤ) → ltZ v (pos 0) ≡ true → pos 0 -ℤ v ≡ pos (natAbs v)
-minus-is (pos n) t = absurd (omega (arith, signs, t))
-minus-is (negsuc n) t = +ℤ-idl (pos (suc n))
-
-pub plus-is : (v : ℤ) → ltZ v (pos 0) ≡ false → v ≡ pos (natAbs v)
-plus-is (pos n) t = refl
-plus-is (negsuc n) t = absurd (omega (arith, signs, t))
-
--- the text of an order with and without a minus
-pub signed-minus : (v : ℤ) → ltZ v (pos 0) ≡ true → signed v ≡ 45 ∷ text (natAbs v)
-signed-minus (pos n) t = absurd (omega (arith, signs, t))
-signed-minus (negsuc n) t = refl
-
-pub signed-plus : (v : ℤ) → ltZ v (pos 0) ≡ false → signed v ≡ text (natAbs v)
-signed-plus (pos n) t = refl
-signed-plus (negsuc n) t = absurd (omega (arith, signs, t))
 
 -- the bits of an absent entry
 pub absent-bits-is : (v : ℤ) → SFits w16 v → ofZ w16 v ≡ 32768 → isAbsent v ≡ true
@@ -140,10 +82,6 @@ absent-bits-is v f e = ap isAbsent (absent-bits v f e)
 pub absent-bits-not : (v : ℤ) → (ofZ w16 v ≡ 32768 → ⊥) → isAbsent v ≡ false
 absent-bits-not (pos n) f = refl
 absent-bits-not (negsuc n) f = ne-eqb n 32767 (λ e. f (ap (λ x. ofZ w16 (negsuc x)) e))
-
-pub nonneg-plus : (v : ℤ) → ltZ v (pos 0) ≡ false → T (nonNeg v)
-nonneg-plus (pos n) t = tt
-nonneg-plus (negsuc n) t = absurd (omega (arith, signs, t))
 
 -- the order's line in the parts in which it is written
 pub line-parts : (i j : ℕ) (v : ℤ)

@@ -12,7 +12,8 @@ use Rattle.sheet.specs.Labels.{width, Labels, slots}
 use Rattle.sheet.specs.Sheet.{Labelled, Stands, labelLines, presentCount, orderLines, orderSection, sheetOf}
 use Rattle.sheet.specs.Answer.{gives, refuses}
 use Rattle.sheet.proofs.Slots.{slots-length, labels-short}
-use Rattle.writer.specs.Parts.{labelsOf, BufferStands, Tested, restText, sheetText, Puts}
+use Rattle.writer.specs.Parts.{labelsOf, BufferStands, Tested, restText, sheetText}
+use Rattle.lettering.specs.Putting.{Puts}
 use Rattle.writer.specs.Promise.{Handed, handed, Sized, Wanted, Labelling, Refuses, wrong-size, wrong-length, wrong-entry, wrong-label, no-room, WritePromise, refused, wrote}
 use Rattle.writer.proofs.SlotLaws.{labels-count, buffer-slots, buffer-labels, labels-buffer}
 

@@ -9,14 +9,9 @@ use lib.IntN.{ℤ}
 use lib.ListN.{length, getD, take, drop}
 use Rattle.theory.specs.Limits.{rows, order}
 use Rattle.theory.specs.Table.{Present, Order, Entries}
-use Rattle.sheet.specs.Text.{over, text, ended, rowsHead, colsHead}
+use Rattle.sheet.specs.Text.{text, ended, rowsHead, colsHead}
 use Rattle.sheet.specs.Sheet.{labelLines, orderSection}
 use Rattle.sheet.specs.Labels.{width, Form, slot}
-
--- a text was written over the front of a room, and r is its length
-pub record Puts (text room room′ : List ℕ) (r : ℕ) : Type 0 where
-  pub is-length : r ≡ length text
-  pub is : room′ ≡ over text room
 
 -- the bytes before the first zero byte
 unfoldable pub labelOf : List ℕ → List ℕ

@@ -1,7 +1,6 @@
 ghost use mathlib.Core.Path.{_≡_};
 ghost use mathlib.Core.List.{List, [], _∷_, _++_};
 ghost use Prim.Native.Nat.{ℕ, _+_, _*_, _/_, _%_, _<_, _≤_};
-ghost use lib.IntN.{natAbs};
 ghost use lib.ListN.{length, getD, take, drop};
 ghost use Rattle.orders.specs.Tested.{Tells};
 ghost use Rattle.theory.specs.Limits.{order, rows as limit};
@@ -9,8 +8,15 @@ ghost use Rattle.sheet.specs.Labels.{width};
 ghost use Rattle.theory.specs.Table.{Order};
 ghost use Rattle.sheet.specs.Text.{text, signed, ended, blank};
 ghost use Rattle.sheet.specs.Sheet.{presentCount, labelLines, orderLine, orderLines, orderSection};
-ghost use Rattle.writer.specs.Parts.{Puts, labelOf, labelsOf, SlotStands, BufferStands, Tested, EntryTested, restText, sheetText};
+ghost use Rattle.lettering.specs.Putting.{Puts};
+ghost use Rattle.writer.specs.Parts.{labelOf, labelsOf, SlotStands, BufferStands, Tested, EntryTested, restText, sheetText};
 ghost use Rattle.writer.specs.Promise.{WritePromise, handed, says};
+use lettering::digits;
+use lettering::magnitude;
+use lettering::put;
+use lettering::put_count;
+use lettering::put_heading;
+use lettering::put_value_line;
 use orders::ABSENT;
 use orders::ROWS;
 use orders::Refusal;
@@ -20,69 +26,10 @@ const FEED: u8 = 10;
 
 const BLANK: u8 = 32;
 
-const MINUS: u8 = 45;
-
 // The sheet's length, or the refusal.
 pub enum Written {
     Bytes(usize),
     Refused(Refusal),
-}
-
-// The digits of a number.
-fn digits(v: usize) -> usize
-    ensures { λ r. ⌜ r ≡ length (text v) ⌝ }
-{
-    if v < 10 {
-        return 1;
-    }
-    digits(v / 10) + 1
-}
-
-// A number at the front of the room; its length.
-fn put_number(v: usize, out: &mut [u8]) -> usize
-    requires { ⌜ length (text v) ≤ length (now out) ⌝ }
-    ensures { λ r. ⌜ Puts (text v) (now (out .entry)) (now (out .exit)) r ⌝ }
-{
-    if v < 10 {
-        out[0] = 48 + v as u8;
-        return 1;
-    }
-    let k = put_number(v / 10, out);
-    out[k] = 48 + (v % 10) as u8;
-    k + 1
-}
-
-// Bytes at the front of the room; their number.
-fn put(text: &[u8], out: &mut [u8]) -> usize
-    requires { ⌜ length (now text) ≤ length (now out) ⌝ }
-    ensures { λ r. ⌜ Puts (now (text .entry)) (now (out .entry)) (now (out .exit)) r ⌝ }
-{
-    let mut i = 0;
-    while i < text.len() {
-        out[i] = text[i];
-        i += 1;
-    }
-    i
-}
-
-// A number and one byte behind it.
-fn put_count(v: usize, last: u8, out: &mut [u8]) -> usize
-    requires { ⌜ length (text v ++ last ∷ []) ≤ length (now out) ⌝ }
-    ensures { λ r. ⌜ Puts (text v ++ last ∷ []) (now (out .entry)) (now (out .exit)) r ⌝ }
-{
-    let k = put_number(v, out);
-    out[k] = last;
-    k + 1
-}
-
-// A heading line in the room.
-fn put_heading(head: &[u8], count: usize, out: &mut [u8]) -> usize
-    requires { ⌜ length (ended (now head ++ text count)) ≤ length (now out) ⌝ }
-    ensures { λ r. ⌜ Puts (ended (now (head .entry) ++ text count)) (now (out .entry)) (now (out .exit)) r ⌝ }
-{
-    let a = put(head, out);
-    let b = put_count(count, FEED, &mut out[a..]);
-    a + b
 }
 
 // The bytes before the first zero byte.
@@ -203,41 +150,16 @@ fn present_count(table: &[i16]) -> usize
     count
 }
 
-// An order without its sign.
-fn magnitude(v: i16) -> usize
-    requires { ⌜ Order order v ⌝ }
-    ensures { λ r. ⌜ r ≡ natAbs v ⌝ }
-{
-    if v < 0 {
-        return (-v) as usize;
-    }
-    v as usize
-}
-
 // The bytes of an order.
 fn value_length(v: i16) -> usize
     requires { ⌜ Order order v ⌝ }
     ensures { λ r. ⌜ (r ≡ length (signed v)) × (r ≤ 4) ⌝ }
 {
-    let size = magnitude(v);
+    let size = magnitude(v as i32);
     if v < 0 {
         return digits(size) + 1;
     }
     digits(size)
-}
-
-// An order in the room.
-fn put_value(v: i16, out: &mut [u8]) -> usize
-    requires { ⌜ (Order order v) × (length (signed v) ≤ length (now out)) ⌝ }
-    ensures { λ r. ⌜ Puts (signed v) (now (out .entry)) (now (out .exit)) r ⌝ }
-{
-    let size = magnitude(v);
-    if v < 0 {
-        out[0] = MINUS;
-        let k = put_number(size, &mut out[1..]);
-        return 1 + k;
-    }
-    put_number(size, out)
 }
 
 // The bytes of the line of place p.
@@ -251,23 +173,13 @@ fn order_length(n: usize, p: usize, v: i16) -> usize
     digits(p / n + 1) + digits(p % n + 1) + value_length(v) + 3
 }
 
-// An order and a line feed.
-fn put_value_line(v: i16, out: &mut [u8]) -> usize
-    requires { ⌜ (Order order v) × (length (ended (signed v)) ≤ length (now out)) ⌝ }
-    ensures { λ r. ⌜ Puts (ended (signed v)) (now (out .entry)) (now (out .exit)) r ⌝ }
-{
-    let k = put_value(v, out);
-    out[k] = FEED;
-    k + 1
-}
-
 // The column and the order of a line.
 fn put_order_end(n: usize, p: usize, v: i16, out: &mut [u8]) -> usize
     requires { ⌜ (1 ≤ n) × (n ≤ limit) × (Order order v) × (length ((text (p % n + 1) ++ blank ∷ []) ++ ended (signed v)) ≤ length (now out)) ⌝ }
     ensures { λ r. ⌜ Puts ((text (p % n + 1) ++ blank ∷ []) ++ ended (signed v)) (now (out .entry)) (now (out .exit)) r ⌝ }
 {
     let a = put_count(p % n + 1, BLANK, out);
-    let b = put_value_line(v, &mut out[a..]);
+    let b = put_value_line(v as i32, &mut out[a..]);
     a + b
 }
 

@@ -4,18 +4,16 @@ use native.Mathlib.Omega.{arith}
 use Prim.Native.Nat.{ℕ, _+_, _-_, _*_, _≤_, _<_, _/_, _%_}
 use mathlib.Core.Path.{_≡_, refl, sym, ap, subst, _∙_}
 use lib.ListN.{length, getD, set, take, drop, length-set, length-append, length-drop}
-use Rattle.writer.proofs.OrderLaws.{absent-bits-is, absent-bits-not, line-absent, present-length, text-99, row-few, col-few}
+use Rattle.writer.proofs.OrderLaws.{absent-bits-is, absent-bits-not, line-absent, present-length, row-few, col-few}
+use Rattle.lettering.proofs.TextLaws.{text-within}
 use Rattle.orders.proofs.Entries.{present-bits}
 use mir.Facts.{toZ-ofZ}
+use borrow.Author.Needs.{needs}
 use Rattle.writer.proofs.order_length.Statement.{statement}
 use Rattle.writer.proofs.order_length.Tie as tie
 
 returns : tie.Need-returns
-returns c = (
-  sym (ap length (line-absent (c .before .args .n) (c .before .args .p) (c .before .args .v) (absent-bits-is
-      (c .before .args .v) (c .before .fits .v) (c .if1 .taken)))),
-  omega arith,
-)
+returns c = (sym (ap length (line-absent (c .before .args .n) (c .before .args .p) (c .before .args .v) (absent-bits-is (c .before .args .v) (c .before .fits .v) (c .if1 .taken)))), omega arith)
 
 div-digits : tie.Need-div-digits
 div-digits c = omega (arith, c .before .pre .some)
@@ -30,116 +28,25 @@ rem-digits : tie.Need-rem-digits
 rem-digits c = omega (arith, c .before .before .pre .some)
 
 add-digits-2 : tie.Need-add-digits-2
-add-digits-2 c = omega (
-  arith,
-  col-few (c .before .before .args .n) (c .before .before .args .p) (c .before .before .pre .some)
-      (c .before .before .pre .few),
-)
+add-digits-2 c = omega (arith, col-few (c .before .before .args .n) (c .before .before .args .p) (c .before .before .pre .some) (c .before .before .pre .few))
 
 digits-requires-2 : tie.Need-digits-requires-2
 digits-requires-2 c κs = search needs
 
 add-result : tie.Need-add-result
-add-result c = let digits′ = c .before .digits in
-    let args′ = c .before .before .before .args in
-    let pre′ = c .before .before .before .pre in
-    let digits2′ = c .digits2 in
-    omega (
-      arith,
-      digits′ .ensures,
-      text-99 (args′ .p / args′ .n + 1) (omega (
-        arith,
-        row-few (args′ .n) (args′ .p) (pre′ .few)
-            (pre′ .place),
-      )),
-      digits2′ .ensures,
-      text-99 (args′ .p % args′ .n + 1) (omega (
-        arith,
-        col-few (args′ .n) (args′ .p) (pre′ .some)
-            (pre′ .few),
-      )),
-    )
+add-result c = omega (arith, c .before .digits .ensures, text-within 1 (c .before .before .before .args .p / c .before .before .before .args .n + 1) (omega (arith, row-few (c .before .before .before .args .n) (c .before .before .before .args .p) (c .before .before .before .pre .few) (c .before .before .before .pre .place))), c .digits2 .ensures, text-within 1 (c .before .before .before .args .p % c .before .before .before .args .n + 1) (omega (arith, col-few (c .before .before .before .args .n) (c .before .before .before .args .p) (c .before .before .before .pre .some) (c .before .before .before .pre .few))))
 
 value-length-requires : tie.Need-value-length-requires
-value-length-requires c κs = rw (toZ-ofZ (c .before .before .before .fits .v)) (c .before .before .before .pre .stands (present-bits
-    (c .before .before .before .args .v) (c .before .before .if1 .left)))
+value-length-requires c κs = rw (toZ-ofZ (c .before .before .before .fits .v)) (c .before .before .before .pre .stands (present-bits (c .before .before .before .args .v) (c .before .before .if1 .left)))
 
 add-result-2 : tie.Need-add-result-2
-add-result-2 c = let digits′ = c .before .before .digits in
-    let args′ = c .before .before .before .before .args in
-    let pre′ = c .before .before .before .before .pre in
-    let digits2′ = c .before .digits2 in
-    let fits′ = c .before .before .before .before .fits in
-    let value-length′ = c .value-length in
-    omega (
-      arith,
-      digits′ .ensures,
-      text-99 (args′ .p / args′ .n + 1) (omega (
-        arith,
-        row-few (args′ .n) (args′ .p) (pre′ .few)
-            (pre′ .place),
-      )),
-      digits2′ .ensures,
-      text-99 (args′ .p % args′ .n + 1) (omega (
-        arith,
-        col-few (args′ .n) (args′ .p) (pre′ .some)
-            (pre′ .few),
-      )),
-      (simp (toZ-ofZ (fits′ .v)) at (value-length′ .ensures)) .1,
-    )
+add-result-2 c = omega (arith, c .before .before .digits .ensures, text-within 1 (c .before .before .before .before .args .p / c .before .before .before .before .args .n + 1) (omega (arith, row-few (c .before .before .before .before .args .n) (c .before .before .before .before .args .p) (c .before .before .before .before .pre .few) (c .before .before .before .before .pre .place))), c .before .digits2 .ensures, text-within 1 (c .before .before .before .before .args .p % c .before .before .before .before .args .n + 1) (omega (arith, col-few (c .before .before .before .before .args .n) (c .before .before .before .before .args .p) (c .before .before .before .before .pre .some) (c .before .before .before .before .pre .few))), (simp (toZ-ofZ (c .before .before .before .before .fits .v)) at (c .value-length .ensures)) .1)
 
 add-result-3 : tie.Need-add-result-3
-add-result-3 c = let digits′ = c .before .before .digits in
-    let args′ = c .before .before .before .before .args in
-    let pre′ = c .before .before .before .before .pre in
-    let digits2′ = c .before .digits2 in
-    let fits′ = c .before .before .before .before .fits in
-    let value-length′ = c .value-length in
-    omega (
-      arith,
-      digits′ .ensures,
-      text-99 (args′ .p / args′ .n + 1) (omega (
-        arith,
-        row-few (args′ .n) (args′ .p) (pre′ .few)
-            (pre′ .place),
-      )),
-      digits2′ .ensures,
-      text-99 (args′ .p % args′ .n + 1) (omega (
-        arith,
-        col-few (args′ .n) (args′ .p) (pre′ .some)
-            (pre′ .few),
-      )),
-      (simp (toZ-ofZ (fits′ .v)) at (value-length′ .ensures)) .1,
-    )
+add-result-3 c = omega (arith, c .before .before .digits .ensures, text-within 1 (c .before .before .before .before .args .p / c .before .before .before .before .args .n + 1) (omega (arith, row-few (c .before .before .before .before .args .n) (c .before .before .before .before .args .p) (c .before .before .before .before .pre .few) (c .before .before .before .before .pre .place))), c .before .digits2 .ensures, text-within 1 (c .before .before .before .before .args .p % c .before .before .before .before .args .n + 1) (omega (arith, col-few (c .before .before .before .before .args .n) (c .before .before .before .before .args .p) (c .before .before .before .before .pre .some) (c .before .before .before .before .pre .few))), (simp (toZ-ofZ (c .before .before .before .before .fits .v)) at (c .value-length .ensures)) .1)
 
 returns-2 : tie.Need-returns-2
-returns-2 c = let digits′ = c .before .before .digits in
-    let digits2′ = c .before .digits2 in
-    let fits′ = c .before .before .before .before .fits in
-    let value-length′ = c .value-length in
-    let args′ = c .before .before .before .before .args in
-    let if1′ = c .before .before .before .if1 in
-    let pre′ = c .before .before .before .before .pre in (
-      omega (
-        arith,
-        digits′ .ensures,
-        digits2′ .ensures,
-        (simp (toZ-ofZ (fits′ .v)) at (value-length′ .ensures)) .0,
-        present-length
-            (args′ .n) (args′ .p) (args′ .v) (absent-bits-not (args′ .v) (if1′ .left)),
-      ),
-      omega (
-        arith,
-        digits′ .ensures,
-        text-99 (args′ .p /
-            args′ .n + 1) (omega (arith, row-few (args′ .n) (args′ .p) (pre′ .few) (pre′ .place))),
-        digits2′ .ensures,
-        text-99 (args′ .p %
-            args′ .n + 1) (omega (arith, col-few (args′ .n) (args′ .p) (pre′ .some) (pre′ .few))),
-        (simp (toZ-ofZ (fits′ .v)) at
-            (value-length′ .ensures)) .1,
-      ),
-    )
+returns-2 c = (omega (arith, c .before .before .digits .ensures, c .before .digits2 .ensures, (simp (toZ-ofZ (c .before .before .before .before .fits .v)) at (c .value-length .ensures)) .0, present-length (c .before .before .before .before .args .n) (c .before .before .before .before .args .p) (c .before .before .before .before .args .v) (absent-bits-not (c .before .before .before .before .args .v) (c .before .before .before .if1 .left))), omega (arith, c .before .before .digits .ensures, text-within 1 (c .before .before .before .before .args .p / c .before .before .before .before .args .n + 1) (omega (arith, row-few (c .before .before .before .before .args .n) (c .before .before .before .before .args .p) (c .before .before .before .before .pre .few) (c .before .before .before .before .pre .place))), c .before .digits2 .ensures, text-within 1 (c .before .before .before .before .args .p % c .before .before .before .before .args .n + 1) (omega (arith, col-few (c .before .before .before .before .args .n) (c .before .before .before .before .args .p) (c .before .before .before .before .pre .some) (c .before .before .before .before .pre .few))), (simp (toZ-ofZ (c .before .before .before .before .fits .v)) at (c .value-length .ensures)) .1))
 
 pub order-length-spec : {M : Type 1} → statement M
 order-length-spec =

@@ -5,10 +5,12 @@ use Prim.Native.Nat.{ℕ, _+_, _-_, _*_, _≤_, _<_}
 use mathlib.Core.Path.{_≡_, refl, sym, ap, subst, _∙_}
 use lib.ListN.{length, getD, set, take, drop, length-set, length-append, length-drop}
 use Rattle.writer.proofs.SlotLaws.{label-le, label-take, line-length}
-use Rattle.writer.proofs.PutLaws.{puts-same, puts-length, puts-byte}
+use Rattle.lettering.proofs.PutLaws.{puts-same, puts-length, puts-byte}
 use lib.Seq.{length-take-le}
 use Rattle.sheet.specs.Text.{ended}
-use Rattle.writer.specs.Parts.{Puts, labelOf}
+use Rattle.writer.specs.Parts.{labelOf}
+use Rattle.lettering.specs.Putting.{Puts}
+use borrow.Author.Needs.{needs}
 use Rattle.writer.proofs.put_label.Statement.{statement}
 use Rattle.writer.proofs.put_label.Tie as tie
 
@@ -16,67 +18,25 @@ label-length-requires : tie.Need-label-length-requires
 label-length-requires c κs = search needs
 
 slice-aggregate-put : tie.Need-slice-aggregate-put
-slice-aggregate-put c = let label-length′ = c .before .label-length in
-    let args′ = c .before .before .before .before .args in
-    sym (length-take-le (label-length′ .result) (args′ .slot .now) (omega (
-      arith,
-      label-length′ .ensures,
-      label-le
-          (args′ .slot .now),
-    )))
+slice-aggregate-put c = sym (length-take-le (c .before .label-length .result) (c .before .before .before .before .args .slot .now) (omega (arith, c .before .label-length .ensures, label-le (c .before .before .before .before .args .slot .now))))
 
 put-requires : tie.Need-put-requires
-put-requires c κs = let args′ = c .before .before .before .before .before .args in
-    let label-length′ = c .before .before .label-length in
-    let pre′ = c .before .before .before .before .before .pre in
-    omega (
-      arith,
-      ap length (ap (λ x. take x (args′ .slot .now)) (label-length′ .ensures) ∙ label-take (args′ .slot .now)),
-      line-length (labelOf (args′ .slot .now)),
-      pre′,
-    )
+put-requires c κs = omega (arith, ap length (ap (λ x. take x (c .before .before .before .before .before .args .slot .now)) (c .before .before .label-length .ensures) ∙ label-take (c .before .before .before .before .before .args .slot .now)), line-length (labelOf (c .before .before .before .before .before .args .slot .now)), (c .before .before .before .before .before .pre))
 
 slice-write-out : tie.Need-slice-write-out
-slice-write-out c = let args′ = c .before .before .before .before .before .before .before .before .args in
-    let put′ = c .before .before .put in
-    let label-length′ = c .before .before .before .before .before .label-length in
-    let pre′ = c .before .before .before .before .before .before .before .before .pre in
-    let p = puts-same _ (labelOf (args′ .slot .now)) (args′ .out .now) _ (put′ .result) (ap (λ x. take x (args′ .slot .now))
-    (label-length′ .ensures) ∙ label-take (args′ .slot .now)) (put′ .ensures) in
-    omega (
-      arith,
-      p .is-length,
-      line-length (labelOf (args′ .slot .now)),
-      pre′,
-      puts-length (labelOf (args′ .slot .now))
-          (args′ .out .now) _ (put′ .result) p (omega (arith, line-length (labelOf (args′ .slot .now)), pre′)),
-    )
+slice-write-out c = let p = puts-same _ (labelOf (c .before .before .before .before .before .before .before .before .args .slot .now)) (c .before .before .before .before .before .before .before .before .args .out .now) _ (c .before .before .put .result) (ap (λ x. take x (c .before .before .before .before .before .before .before .before .args .slot .now)) (c .before .before .before .before .before .label-length .ensures) ∙ label-take (c .before .before .before .before .before .before .before .before .args .slot .now)) (c .before .before .put .ensures) in
+    omega (arith, p .is-length, line-length (labelOf (c .before .before .before .before .before .before .before .before .args .slot .now)), (c .before .before .before .before .before .before .before .before .pre), puts-length (labelOf (c .before .before .before .before .before .before .before .before .args .slot .now)) (c .before .before .before .before .before .before .before .before .args .out .now) _ (c .before .before .put .result) p (omega (arith, line-length (labelOf (c .before .before .before .before .before .before .before .before .args .slot .now)), (c .before .before .before .before .before .before .before .before .pre))))
 
 add-result : tie.Need-add-result
-add-result c = let args′ = c .before .before .before .before .before .before .before .before .args in
-    let put′ = c .before .before .put in
-    let label-length′ = c .before .before .before .before .before .label-length in
-    let pre′ = c .before .before .before .before .before .before .before .before .pre in
-    let p = puts-same _ (labelOf (args′ .slot .now)) (args′ .out .now) _ (put′ .result) (ap (λ x. take x (args′ .slot .now))
-    (label-length′ .ensures) ∙ label-take (args′ .slot .now)) (put′ .ensures) in
-    omega (arith, p .is-length, label-le (args′ .slot .now), line-length (labelOf (args′ .slot .now)), pre′)
+add-result c = let p = puts-same _ (labelOf (c .before .before .before .before .before .before .before .before .args .slot .now)) (c .before .before .before .before .before .before .before .before .args .out .now) _ (c .before .before .put .result) (ap (λ x. take x (c .before .before .before .before .before .before .before .before .args .slot .now)) (c .before .before .before .before .before .label-length .ensures) ∙ label-take (c .before .before .before .before .before .before .before .before .args .slot .now)) (c .before .before .put .ensures) in
+    omega (arith, p .is-length, label-le (c .before .before .before .before .before .before .before .before .args .slot .now), line-length (labelOf (c .before .before .before .before .before .before .before .before .args .slot .now)), (c .before .before .before .before .before .before .before .before .pre))
 
 same-length : tie.Need-same-length
 same-length c = search needs
 
 returns : tie.Need-returns
-returns c = let args′ = c .before .before .before .before .before .before .before .before .args in
-    let put′ = c .before .before .put in
-    let label-length′ = c .before .before .before .before .before .label-length in
-    let pre′ = c .before .before .before .before .before .before .before .before .pre in
-    let p = puts-same _ (labelOf (args′ .slot .now)) (args′ .out .now) _ (put′ .result) (ap (λ x. take x (args′ .slot .now))
-    (label-length′ .ensures) ∙ label-take (args′ .slot .now)) (put′ .ensures) in
-    puts-byte (labelOf (args′ .slot .now)) (args′ .out .now) _ (put′ .result) p 10 (omega (
-      arith,
-      line-length (labelOf
-          (args′ .slot .now)),
-      pre′,
-    ))
+returns c = let p = puts-same _ (labelOf (c .before .before .before .before .before .before .before .before .args .slot .now)) (c .before .before .before .before .before .before .before .before .args .out .now) _ (c .before .before .put .result) (ap (λ x. take x (c .before .before .before .before .before .before .before .before .args .slot .now)) (c .before .before .before .before .before .label-length .ensures) ∙ label-take (c .before .before .before .before .before .before .before .before .args .slot .now)) (c .before .before .put .ensures) in
+    puts-byte (labelOf (c .before .before .before .before .before .before .before .before .args .slot .now)) (c .before .before .before .before .before .before .before .before .args .out .now) _ (c .before .before .put .result) p 10 (omega (arith, line-length (labelOf (c .before .before .before .before .before .before .before .before .args .slot .now)), (c .before .before .before .before .before .before .before .before .pre)))
 
 pub put-label-spec : {M : Type 1} → statement M
 put-label-spec =

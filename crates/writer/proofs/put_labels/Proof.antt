@@ -5,12 +5,13 @@ use Prim.Native.Nat.{ℕ, _+_, _-_, _*_, _≤_, _<_}
 use mathlib.Core.Path.{_≡_, refl, sym, ap, subst, _∙_}
 use lib.ListN.{length, getD, set, take, drop, length-set, length-append, length-drop}
 use Rattle.writer.proofs.SlotLaws.{lines-mono, label-line-next, slot-length}
-use Rattle.writer.proofs.PutLaws.{puts-none, puts-same, puts-length, puts-tail, left-room}
+use Rattle.lettering.proofs.PutLaws.{puts-none, puts-same, puts-length, puts-tail, left-room}
 use Rattle.sheet.specs.Labels.{slot}
 use Rattle.sheet.specs.Sheet.{labelLines}
 use Rattle.sheet.specs.Text.{ended}
 use Rattle.sheet.proofs.Slots.{part-slot}
-use Rattle.writer.specs.Parts.{Puts, labelOf, labelsOf}
+use Rattle.writer.specs.Parts.{labelOf, labelsOf}
+use Rattle.lettering.specs.Putting.{Puts}
 use Rattle.writer.proofs.put_labels.Statement.{statement}
 use Rattle.writer.proofs.put_labels.Tie as tie
 

@@ -4,11 +4,13 @@ use native.Mathlib.Omega.{arith}
 use Prim.Native.Nat.{ℕ, _+_, _-_, _*_, _≤_, _<_, _%_}
 use mathlib.Core.Path.{_≡_, refl, sym, ap, subst, _∙_}
 use lib.ListN.{length, getD, set, take, drop, length-set, length-append, length-drop}
-use Rattle.writer.proofs.PutLaws.{puts-inside, puts-tail, puts-same, left-room, sum-fits, part-room, first-room, puts-length}
+use Rattle.lettering.proofs.PutLaws.{puts-inside, puts-tail, puts-same, left-room, sum-fits, part-room, first-room, puts-length}
 use Rattle.writer.proofs.OrderLaws.{col-few}
 use mathlib.Core.List.{[], _∷_, _++_, append-assoc}
 use Rattle.sheet.specs.Text.{text, signed, ended}
-use mir.Facts.{toZ-ofZ}
+use mir.Facts.{sfits-widen, sfits-toZ, fits-ofZ}
+use Rattle.lettering.proofs.TextLaws.{widened}
+use borrow.Author.Needs.{needs}
 use Rattle.writer.proofs.put_order_end.Statement.{statement}
 use Rattle.writer.proofs.put_order_end.Tie as tie
 
@@ -19,78 +21,31 @@ add-put-count : tie.Need-add-put-count
 add-put-count c = omega (arith, col-few (c .before .args .n) (c .before .args .p) (c .before .pre .0) (c .before .pre .1))
 
 put-count-requires : tie.Need-put-count-requires
-put-count-requires c κs = first-room (text (c .before .before .args .p % c .before .before .args .n + 1) ++ 32 ∷ []) (ended (signed
-    (c .before .before .args .v))) (c .before .before .args .out .now) (c .before .before .pre .3)
+put-count-requires c κs = first-room (text (c .before .before .args .p % c .before .before .args .n + 1) ++ 32 ∷ []) (ended (signed (c .before .before .args .v))) (c .before .before .args .out .now) (c .before .before .pre .3)
+
+cast-put-value-line : tie.Need-cast-put-value-line
+cast-put-value-line c = sfits-widen tt (sfits-toZ (fits-ofZ (c .before .before .before .before .before .fits .v)))
 
 sub-put-value-line : tie.Need-sub-put-value-line
-sub-put-value-line c = let args′ = c .before .before .before .before .before .args in
-    let put-count′ = c .before .before .put-count in
-    let pre′ = c .before .before .before .before .before .pre in
-    omega (
-      arith,
-      puts-inside (text (args′ .p % args′ .n + 1) ++ 32 ∷ []) (args′ .out .now) _ (put-count′ .result)
-          (put-count′ .ensures) (first-room (text (args′ .p % args′ .n + 1) ++ 32 ∷ []) (ended (signed (args′ .v))) (args′ .out .now)
-          (pre′ .3)),
-    )
+sub-put-value-line c = omega (arith, puts-inside (text (c .before .before .before .before .before .args .p % c .before .before .before .before .before .args .n + 1) ++ 32 ∷ []) (c .before .before .before .before .before .args .out .now) _ (c .before .before .put-count .result) (c .before .before .put-count .ensures) (first-room (text (c .before .before .before .before .before .args .p % c .before .before .before .before .before .args .n + 1) ++ 32 ∷ []) (ended (signed (c .before .before .before .before .before .args .v))) (c .before .before .before .before .before .args .out .now) (c .before .before .before .before .before .pre .3)))
 
 part-put-value-line-start : tie.Need-part-put-value-line-start
-part-put-value-line-start c = let args′ = c .before .before .before .before .before .args in
-    let put-count′ = c .before .before .put-count in
-    let pre′ = c .before .before .before .before .before .pre in
-    omega (
-      arith,
-      puts-inside (text (args′ .p % args′ .n + 1) ++ 32 ∷ []) (args′ .out .now) _ (put-count′ .result)
-          (put-count′ .ensures) (first-room (text (args′ .p % args′ .n + 1) ++ 32 ∷ []) (ended (signed (args′ .v))) (args′ .out .now)
-          (pre′ .3)),
-    )
+part-put-value-line-start c = omega (arith, puts-inside (text (c .before .before .before .before .before .args .p % c .before .before .before .before .before .args .n + 1) ++ 32 ∷ []) (c .before .before .before .before .before .args .out .now) _ (c .before .before .put-count .result) (c .before .before .put-count .ensures) (first-room (text (c .before .before .before .before .before .args .p % c .before .before .before .before .before .args .n + 1) ++ 32 ∷ []) (ended (signed (c .before .before .before .before .before .args .v))) (c .before .before .before .before .before .args .out .now) (c .before .before .before .before .before .pre .3)))
 
 part-put-value-line-end : tie.Need-part-put-value-line-end
-part-put-value-line-end c = let args′ = c .before .before .before .before .before .args in
-    let put-count′ = c .before .before .put-count in
-    let pre′ = c .before .before .before .before .before .pre in
-    omega (
-      arith,
-      puts-inside (text (args′ .p % args′ .n + 1) ++ 32 ∷ []) (args′ .out .now) _ (put-count′ .result)
-          (put-count′ .ensures) (first-room (text (args′ .p % args′ .n + 1) ++ 32 ∷ []) (ended (signed (args′ .v))) (args′ .out .now)
-          (pre′ .3)),
-    )
+part-put-value-line-end c = omega (arith, puts-inside (text (c .before .before .before .before .before .args .p % c .before .before .before .before .before .args .n + 1) ++ 32 ∷ []) (c .before .before .before .before .before .args .out .now) _ (c .before .before .put-count .result) (c .before .before .put-count .ensures) (first-room (text (c .before .before .before .before .before .args .p % c .before .before .before .before .before .args .n + 1) ++ 32 ∷ []) (ended (signed (c .before .before .before .before .before .args .v))) (c .before .before .before .before .before .args .out .now) (c .before .before .before .before .before .pre .3)))
 
 put-value-line-requires : tie.Need-put-value-line-requires
-put-value-line-requires c κs = let fits′ = c .before .before .before .before .before .before .fits in
-    let pre′ = c .before .before .before .before .before .before .pre in
-    let args′ = c .before .before .before .before .before .before .args in
-    let put-count′ = c .before .before .before .put-count in
-    rw (toZ-ofZ (fits′ .v)) (
-      pre′ .2,
-      left-room (text (args′ .p % args′ .n + 1) ++ 32 ∷ []) (args′ .out .now) _ (put-count′ .result)
-          (put-count′ .ensures) (ended (signed (args′ .v))) _ refl (part-room (text (args′ .p % args′ .n + 1) ++ 32 ∷ []) (ended (signed
-          (args′ .v))) (args′ .out .now) (pre′ .3)),
-    )
+put-value-line-requires c κs = rw (widened (c .before .before .before .before .before .before .fits .v)) (left-room (text (c .before .before .before .before .before .before .args .p % c .before .before .before .before .before .before .args .n + 1) ++ 32 ∷ []) (c .before .before .before .before .before .before .args .out .now) _ (c .before .before .before .put-count .result) (c .before .before .before .put-count .ensures) (ended (signed (c .before .before .before .before .before .before .args .v))) _ refl (part-room (text (c .before .before .before .before .before .before .args .p % c .before .before .before .before .before .before .args .n + 1) ++ 32 ∷ []) (ended (signed (c .before .before .before .before .before .before .args .v))) (c .before .before .before .before .before .before .args .out .now) (c .before .before .before .before .before .before .pre .3)))
 
 add-result : tie.Need-add-result
-add-result c = let args′ = c .before .before .before .before .before .before .before .before .before .args in
-    let put-count′ = c .before .before .before .before .before .before .put-count in
-    let put-value-line′ = c .before .before .put-value-line in
-    let fits′ = c .before .before .before .before .before .before .before .before .before .fits in
-    let pre′ = c .before .before .before .before .before .before .before .before .before .pre in
-    sum-fits (text (args′ .p % args′ .n + 1) ++ 32 ∷ []) (args′ .out .now) _ (put-count′ .result) (put-count′ .ensures) (ended
-    (signed (args′ .v))) _ _ (put-value-line′ .result) (puts-same _ (ended (signed (args′ .v))) _ _ _ (ap (λ x. ended (signed x))
-    (toZ-ofZ (fits′ .v))) (put-value-line′ .ensures)) (part-room (text (args′ .p % args′ .n + 1) ++ 32 ∷ []) (ended (signed
-    (args′ .v))) (args′ .out .now) (pre′ .3)) (search needs)
+add-result c = sum-fits (text (c .before .before .before .before .before .before .before .before .before .args .p % c .before .before .before .before .before .before .before .before .before .args .n + 1) ++ 32 ∷ []) (c .before .before .before .before .before .before .before .before .before .args .out .now) _ (c .before .before .before .before .before .before .put-count .result) (c .before .before .before .before .before .before .put-count .ensures) (ended (signed (c .before .before .before .before .before .before .before .before .before .args .v))) _ _ (c .before .before .put-value-line .result) (puts-same _ (ended (signed (c .before .before .before .before .before .before .before .before .before .args .v))) _ _ _ (ap (λ x. ended (signed x)) (widened (c .before .before .before .before .before .before .before .before .before .fits .v))) (c .before .before .put-value-line .ensures)) (part-room (text (c .before .before .before .before .before .before .before .before .before .args .p % c .before .before .before .before .before .before .before .before .before .args .n + 1) ++ 32 ∷ []) (ended (signed (c .before .before .before .before .before .before .before .before .before .args .v))) (c .before .before .before .before .before .before .before .before .before .args .out .now) (c .before .before .before .before .before .before .before .before .before .pre .3)) (search needs)
 
 same-length : tie.Need-same-length
 same-length c = search needs
 
 returns : tie.Need-returns
-returns c = let args′ = c .before .before .before .before .before .before .before .before .before .args in
-    let put-count′ = c .before .before .before .before .before .before .put-count in
-    let put-value-line′ = c .before .before .put-value-line in
-    let fits′ = c .before .before .before .before .before .before .before .before .before .fits in
-    let pre′ = c .before .before .before .before .before .before .before .before .before .pre in
-    puts-tail (text (args′ .p % args′ .n + 1) ++ 32 ∷ []) (args′ .out .now) _ (put-count′ .result) (put-count′ .ensures) (ended
-    (signed (args′ .v))) _ (put-value-line′ .result) _ refl (puts-same _ (ended (signed (args′ .v))) _ _ _ (ap (λ x. ended (signed
-    x)) (toZ-ofZ (fits′ .v))) (put-value-line′ .ensures)) (part-room (text (args′ .p % args′ .n + 1) ++ 32 ∷ []) (ended (signed
-    (args′ .v))) (args′ .out .now) (pre′ .3))
+returns c = puts-tail (text (c .before .before .before .before .before .before .before .before .before .args .p % c .before .before .before .before .before .before .before .before .before .args .n + 1) ++ 32 ∷ []) (c .before .before .before .before .before .before .before .before .before .args .out .now) _ (c .before .before .before .before .before .before .put-count .result) (c .before .before .before .before .before .before .put-count .ensures) (ended (signed (c .before .before .before .before .before .before .before .before .before .args .v))) _ (c .before .before .put-value-line .result) _ refl (puts-same _ (ended (signed (c .before .before .before .before .before .before .before .before .before .args .v))) _ _ _ (ap (λ x. ended (signed x)) (widened (c .before .before .before .before .before .before .before .before .before .fits .v))) (c .before .before .put-value-line .ensures)) (part-room (text (c .before .before .before .before .before .before .before .before .before .args .p % c .before .before .before .before .before .before .before .before .before .args .n + 1) ++ 32 ∷ []) (ended (signed (c .before .before .before .before .before .before .before .before .before .args .v))) (c .before .before .before .before .before .before .before .before .before .args .out .now) (c .before .before .before .before .before .before .before .before .before .pre .3))
 
 pub put-order-end-spec : {M : Type 1} → statement M
 put-order-end-spec =
@@ -99,6 +54,7 @@ put-order-end-spec =
     rem-put-count
     add-put-count
     put-count-requires
+    cast-put-value-line
     sub-put-value-line
     part-put-value-line-start
     part-put-value-line-end

@@ -4,14 +4,15 @@ use native.Mathlib.Omega.{arith}
 use Prim.Native.Nat.{ℕ, _+_, _-_, _*_, _≤_, _<_}
 use mathlib.Core.Path.{_≡_, refl, sym, ap, subst, _∙_}
 use lib.ListN.{length, getD, set, take, drop, length-set, length-append, length-drop}
-use Rattle.writer.proofs.PutLaws.{puts-inside, puts-tail, puts-same, left-room, sum-fits, part-room, first-room, puts-length, puts-none}
+use Rattle.lettering.proofs.PutLaws.{puts-inside, puts-tail, puts-same, left-room, sum-fits, part-room, first-room, puts-length, puts-none}
 use Rattle.writer.proofs.OrderLaws.{entry-tested, square-few, order-lines-next, next-room, front-lines}
 use Rattle.orders.proofs.Entries.{back}
 use mir.Syntax.{w16}
 use lib.IntN.{pos}
 use lib.Seq.{take-length}
 use Rattle.sheet.specs.Sheet.{orderLine, orderLines}
-use Rattle.writer.specs.Parts.{Tested, Puts}
+use Rattle.writer.specs.Parts.{Tested}
+use Rattle.lettering.specs.Putting.{Puts}
 use Rattle.writer.proofs.put_orders.Statement.{statement}
 use Rattle.writer.proofs.put_orders.Tie as tie
 

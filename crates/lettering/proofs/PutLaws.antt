@@ -1,0 +1,101 @@
+-- A room that is written from the front, text after text. Assumes nothing.
+use mathlib.Core.Path.{_≡_, refl, sym, ap, subst, _∙_}
+use mathlib.Core.List.{List, [], _∷_, _++_, append-assoc, append-nil}
+use Prim.Native.Nat.{ℕ, zero, suc, _+_, _-_, _*_, _/_, _%_, _<_, _≤_}
+use native.Mathlib.Omega.{arith}
+use native.Mathlib.Numerals.{add-one}
+use lib.ListN.{length, getD, set, take, drop, drop-of-length-le, length-drop, length-append}
+use lib.Seq.{drop-drop, drop-at, take-at, take-all, drop-cons, set-at}
+use Rattle.sheet.specs.Text.{over, text, ended}
+use Rattle.sheet.proofs.Numbers.{text-small, text-large}
+use mir.Syntax.{w64}
+use mir.Val.{Fits}
+use Rattle.lettering.specs.Putting.{Puts}
+
+pub over-length : {A : Type 0} (a o : List A) → length a ≤ length o → length (over a o) ≡ length o
+over-length a o h = length-append a (drop (length a) o) ∙ omega (arith, length-drop (length a) o)
+
+pub puts-none : (o : List ℕ) → Puts [] o o 0
+puts-none o = record { is-length = refl; is = refl }
+
+-- the same text, written down otherwise
+pub puts-same : (a b o o′ : List ℕ) (n : ℕ) → a ≡ b → Puts a o o′ n → Puts b o o′ n
+puts-same a b o o′ n e p = subst (λ x. Puts x o o′ n) e p
+
+module _ (a o o′ : List ℕ) (n : ℕ) (p : Puts a o o′ n) where
+  pub puts-length : length a ≤ length o → length o′ ≡ length o
+  puts-length h = ap length (p .is) ∙ over-length a o h
+
+  -- one byte after the text
+  pub puts-byte : (b : ℕ) → length a < length o → Puts (a ++ b ∷ []) o (set o′ n b) (n + 1)
+  puts-byte b h =
+      record {
+        is-length = omega (arith, p .is-length, length-append a (b ∷ []));
+        is =
+            ap (λ x. set x n b) (p .is ∙ ap (λ x. a ++ x) (drop-cons o (length a) 0 h))
+            ∙ set-at a (getD o (length a) 0) (drop (suc (length a)) o) b n (sym (p .is-length))
+            ∙ sym (append-assoc a (b ∷ []) (drop (suc (length a)) o))
+            ∙ ap (λ x. (a ++ b ∷ []) ++ drop x o) (sym (add-one (length a)) ∙ sym (length-append a (b ∷ [])));
+      }
+
+  -- a second text in the tail that the first left free, from n on and k long, which was lent
+  pub puts-tail : (b ys : List ℕ) (m k : ℕ) → k ≡ length o′ - n → Puts b (take k (drop n o′)) ys m → length a + length b ≤ length o
+      → Puts (a ++ b) o (take n o′ ++ (ys ++ drop k (drop n o′))) (n + m)
+  puts-tail b ys m k g y h =
+      let w : length o′ ≡ length o = puts-length (omega arith) in
+      let e : length a ≡ n = sym (p .is-length) in
+      let t : drop n o′ ≡ drop (length a) o = ap (λ l. drop n l) (p .is) ∙ drop-at a (drop (length a) o) n e in
+      let f : take n o′ ≡ a = ap (λ l. take n l) (p .is) ∙ take-at a (drop (length a) o) n e in
+      let u : take k (drop n o′) ≡ drop (length a) o =
+      ap (λ l. take k l) t ∙ take-all k (drop (length a) o) (omega (arith, length-drop (length a) o)) in
+      let v : drop k (drop n o′) ≡ [] = drop-of-length-le (drop n o′) {i = k} (omega (arith, length-drop n o′)) in
+      record {
+        is-length = omega (arith, p .is-length, y .is-length, length-append a b);
+        is =
+            ap (λ l. l ++ (ys ++ drop k (drop n o′))) f
+            ∙ ap (λ l. a ++ (ys ++ l)) v
+            ∙ ap (λ l. a ++ l) (append-nil ys ∙ y .is ∙ ap (λ l. over b l) u)
+            ∙ ap (λ l. a ++ (b ++ l)) (drop-drop (length b) (length a) o ∙ ap (λ i. drop i o) (sym (length-append a b)))
+            ∙ sym (append-assoc a b (drop (length (a ++ b)) o));
+      }
+
+  -- the room that is left
+  pub left-room : (b : List ℕ) (k : ℕ) → k ≡ length o′ - n → length a + length b ≤ length o → length b ≤ length (take k (drop n o′))
+  left-room b k g h =
+      let w : length o′ ≡ length o = puts-length (omega arith) in
+      rw (take-all k (drop n o′) (omega (arith, length-drop n o′))) (omega (arith, length-drop n o′, p .is-length))
+
+-- a number: one digit, or its tens and one digit more
+pub number-one : (v : ℕ) (o : List ℕ) → v < 10 → 0 < length o → Puts (text v) o (set o 0 (48 + v)) 1
+number-one v o h g = puts-same ((48 + v) ∷ []) (text v) o (set o 0 (48 + v)) 1 (sym (text-small v h)) (puts-byte [] o o 0 (puts-none o) (48 + v) g)
+
+pub number-more : (v : ℕ) (o o′ : List ℕ) (k : ℕ) → 10 ≤ v → length (text v) ≤ length o → Puts (text (v / 10)) o o′ k
+    → Puts (text v) o (set o′ k (48 + v % 10)) (k + 1)
+number-more v o o′ k h g p =
+    let e : text v ≡ text (v / 10) ++ ((48 + v % 10) ∷ []) = text-large v h in
+    puts-same (text (v / 10) ++ ((48 + v % 10) ∷ [])) (text v) o (set o′ k (48 + v % 10)) (k + 1) (sym e)
+    (puts-byte (text (v / 10)) o o′ k p (48 + v % 10) (omega (arith, ap length e, length-append (text (v / 10)) ((48 + v % 10) ∷ []))))
+
+module _ (a o o′ : List ℕ) (n : ℕ) (p : Puts a o o′ n) where
+  pub puts-inside : length a ≤ length o → n ≤ length o′
+  puts-inside h = omega (arith, p .is-length, puts-length a o o′ n p h)
+
+  pub byte-inside : length a < length o → n < length o′
+  byte-inside h = omega (arith, p .is-length, puts-length a o o′ n p (omega arith))
+
+  pub byte-fits : length a < length o → Fits w64 (length o) → Fits w64 (n + 1)
+  byte-fits h f = omega (arith, p .is-length)
+
+  -- two parts within the room
+  pub sum-fits : (b r y : List ℕ) (m : ℕ) → Puts b r y m → length a + length b ≤ length o → Fits w64 (length o) → Fits w64 (n + m)
+  sum-fits b r y m q h f = omega (arith, p .is-length, q .is-length)
+
+-- parts of a text: the whole fits, so the parts do
+pub part-room : (a b o : List ℕ) → length (a ++ b) ≤ length o → length a + length b ≤ length o
+part-room a b o h = omega (arith, length-append a b)
+
+pub first-room : (a b o : List ℕ) → length (a ++ b) ≤ length o → length a ≤ length o
+first-room a b o h = omega (arith, length-append a b)
+
+pub byte-room : (a : List ℕ) (b : ℕ) (o : List ℕ) → length (a ++ b ∷ []) ≤ length o → length a < length o
+byte-room a b o h = omega (arith, length-append a (b ∷ []))

@@ -1,0 +1,4 @@
+pub mod Pages
+pub mod Figures
+pub mod Saying
+pub mod Unique

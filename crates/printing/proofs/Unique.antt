@@ -1,0 +1,96 @@
+-- No second answer and no second memory meets the promise of printing. Assumes nothing.
+use mathlib.Core.Path.{_≡_, refl, sym, ap, _∙_}
+use mathlib.Core.List.{List, [], _∷_}
+use Prim.Native.Nat.{ℕ, _-_, _≤_, _<_}
+use native.Mathlib.Omega.{arith}
+use lib.IntN.{ℤ, pos}
+use lib.ListN.{length, getD}
+use lib.Seq.{ext-getD}
+use Rattle.theory.specs.Lists.{nums, columns, StarList}
+use Rattle.theory.specs.Table.{entry}
+use Rattle.theory.specs.Canon.{OfMaxima}
+use Rattle.theory.proofs.Unique.{solution-once, index-once}
+use Rattle.orders.specs.Refusals.{numberOf, valuesOf, Said, gives, refuses}
+use Rattle.sheet.specs.Text.{over}
+use Rattle.sheet.specs.Sheet.{Labelled}
+use Rattle.sheet.specs.Reading.{Outcome, good, wrong}
+use Rattle.sheet.specs.Answer.{refusal}
+use Rattle.sheet.proofs.Once.{reads-once}
+use Rattle.sheet.proofs.Answers.{refusal-once}
+use Rattle.printing.specs.Printed.{Figures, printed}
+use Rattle.printing.specs.Promise.{says, FiguresOf, TableSays, no-transversal, solved, SheetSays, too-long, wrong-line, of-table, PrintPromise, no-room, wrote}
+use Rattle.printing.specs.declared.Printed.{Printed}
+use Rattle.printing.specs.declared.Printed.the-variants.{Bytes, Refused}
+
+-- what is returned is known from its number and values
+pub says-once : (a b : Printed) → says a ≡ says b → a ≡ b
+says-once (Bytes n) (Bytes m) e = let h : n ≡ m = cc in ap Bytes h
+says-once (Bytes n) (Refused r) e = absurd (let z : _≡_ {A = ℕ} 0 1 = cc in omega arith)
+says-once (Refused r) (Bytes m) e = absurd (let z : _≡_ {A = ℕ} 0 1 = cc in omega arith)
+says-once (Refused r) (Refused q) e =
+    let c : numberOf r ≡ numberOf q = cc in
+    let d : valuesOf r ≡ valuesOf q = cc in
+    let g : refusal r ≡ refusal q = cc in ap Refused (refusal-once r q g)
+
+-- two star lists with the same columns are the same numbers
+star-same : (n : ℕ) (a b : List ℕ) → StarList n a → StarList n b → (i : ℕ) → i < n → columns a i ≡ columns b i → nums a i ≡ nums b i
+star-same n a b s t i h e = omega (arith, s .from-one i h, t .from-one i h)
+
+-- a table has one set of figures
+figures-once : (n : ℕ) (t : List ℤ) (f g : Figures) → FiguresOf n t f → FiguresOf n t g → f ≡ g
+figures-once n t f g p q =
+    let o = solution-once n (entry t n) (p .solution) (q .solution) in
+    let a : f .adds ≡ g .adds = ext-getD 0 (f .adds) (g .adds) (p .adds-long ∙ sym (q .adds-long)) (λ i h. o .additions i (omega (arith, p .adds-long))) in
+    let s : f .stars ≡ g .stars = ext-getD 0 (f .stars) (g .stars) (p .star-list .long ∙ sym (q .star-list .long))
+    (λ i h.
+    let k : i < n = omega (arith, p .star-list .long) in
+    star-same n (f .stars) (g .stars) (p .star-list) (q .star-list) i k (o .stars i k)) in
+    let z : f .heads ≡ g .heads = ext-getD (pos 0) (f .heads) (g .heads) (p .heads-long ∙ sym (q .heads-long)) (λ i h. o .heads i (omega (arith, p .heads-long))) in
+    let v : f .sum ≡ g .sum = o .one-sum in
+    let x : f .index ≡ g .index = index-once n (entry t n) (o .additions) (p .is-index) (q .is-index) in
+    ap (λ y. record { adds = y; stars = f .stars; heads = f .heads; sum = f .sum; index = f .index }) a
+    ∙ ap (λ y. record { adds = g .adds; stars = y; heads = f .heads; sum = f .sum; index = f .index }) s
+    ∙ ap (λ y. record { adds = g .adds; stars = g .stars; heads = y; sum = f .sum; index = f .index }) z
+    ∙ ap (λ y. record { adds = g .adds; stars = g .stars; heads = g .heads; sum = y; index = f .index }) v
+    ∙ ap (λ y. record { adds = g .adds; stars = g .stars; heads = g .heads; sum = g .sum; index = y }) x
+
+-- a table with figures has a complete transversal
+some-transversal : {X : Type 0} (n : ℕ) (t : List ℤ) (f : Figures) → FiguresOf n t f → Rattle.handed.specs.Conditions.NoTransversal n t → X
+some-transversal n t f p none = absurd (none (columns (f .stars)) (p .solution .stars .of-maxima .transversal))
+
+table-once : (n : ℕ) (t : List ℤ) (a b : Said Figures) → TableSays n t a → TableSays n t b → a ≡ b
+table-once n t a b (no-transversal u e) (no-transversal v f) = e ∙ sym f
+table-once n t a b (no-transversal u e) (solved g p f) = some-transversal n t g p u
+table-once n t a b (solved g p e) (no-transversal v f) = some-transversal n t g p v
+table-once n t a b (solved g p e) (solved h q f) = e ∙ ap gives (figures-once n t g h p q) ∙ sym f
+
+not-both : {X : Type 0} (t : Labelled) (k : ℕ) → good t ≡ wrong k → X
+not-both t k e = absurd (let z : _≡_ {A = ℕ} 0 1 = cc in omega arith)
+
+-- a sheet has one answer
+pub sheet-once : (s : List ℕ) (a b : Said Figures) → SheetSays s a → SheetSays s b → a ≡ b
+sheet-once s a b (too-long l e) (too-long m f) = e ∙ sym f
+sheet-once s a b (too-long l e) (wrong-line k m r f) = absurd (omega arith)
+sheet-once s a b (too-long l e) (of-table t m r p) = absurd (omega arith)
+sheet-once s a b (wrong-line k l r e) (too-long m f) = absurd (omega arith)
+sheet-once s a b (wrong-line k l r e) (wrong-line j m q f) =
+    let d : _≡_ {A = Outcome} (wrong k) (wrong j) = reads-once r q in
+    let c : k ≡ j = cc in e ∙ ap (λ x. refuses 10 (x ∷ [])) c ∙ sym f
+sheet-once s a b (wrong-line k l r e) (of-table t m q p) = not-both t k (reads-once q r)
+sheet-once s a b (of-table t l r p) (too-long m f) = absurd (omega arith)
+sheet-once s a b (of-table t l r p) (wrong-line k m q f) = not-both t k (reads-once r q)
+sheet-once s a b (of-table t l r p) (of-table u m q o) =
+    let d : _≡_ {A = Outcome} (good t) (good u) = reads-once r q in
+    let c : t ≡ u = cc in
+    table-once (length (u .row-labels)) (u .entries) a b (rw c at p) o
+
+-- Uniqueness of printing: two results with two memories that both meet the statement are the same result and the same memory.
+pub print-once : (s room p q : List ℕ) (a b : Printed) → PrintPromise s room p (says a) → PrintPromise s room q (says b) → (a ≡ b) × (p ≡ q)
+print-once s room p q a b (no-room x h l e f) (no-room y g m d k) = (says-once a b (e ∙ sym d), f ∙ sym k)
+print-once s room p q a b (no-room x h l e f) (wrote y g m d k) =
+    let c : length (printed x) ≡ length (printed y) = ap (λ i. length (printed i)) (sheet-once s x y h g) in absurd (omega arith)
+print-once s room p q a b (wrote x h l e f) (no-room y g m d k) =
+    let c : length (printed x) ≡ length (printed y) = ap (λ i. length (printed i)) (sheet-once s x y h g) in absurd (omega arith)
+print-once s room p q a b (wrote x h l e f) (wrote y g m d k) =
+    let c : x ≡ y = sheet-once s x y h g in
+    (says-once a b (e ∙ ap (λ i. gives (length (printed i))) c ∙ sym d), f ∙ ap (λ i. over (printed i) room) c ∙ sym k)

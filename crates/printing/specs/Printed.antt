@@ -1,0 +1,50 @@
+-- "The printed answer, whole."
+use mathlib.Core.List.{List, [], _∷_, _++_, map}
+use Prim.Native.Nat.{ℕ}
+use lib.IntN.{ℤ}
+use Rattle.sheet.specs.Text.{blank, text, signed, ended}
+use Rattle.sheet.specs.Sheet.{labelSection}
+use Rattle.orders.specs.Refusals.{Said, gives, refuses}
+
+-- what the answer of a table says
+pub record Figures : Type 0 where
+  pub adds : List ℕ
+  pub stars : List ℕ
+  pub heads : List ℤ
+  pub sum : ℤ
+  pub index : ℕ
+
+-- `adds `, `stars `, `heads `, `sum `, `index ` and `refused `
+abbrev pub addsHead : List ℕ
+addsHead = 97 ∷ 100 ∷ 100 ∷ 115 ∷ 32 ∷ []
+
+abbrev pub starsHead : List ℕ
+starsHead = 115 ∷ 116 ∷ 97 ∷ 114 ∷ 115 ∷ 32 ∷ []
+
+abbrev pub headsHead : List ℕ
+headsHead = 104 ∷ 101 ∷ 97 ∷ 100 ∷ 115 ∷ 32 ∷ []
+
+abbrev pub sumHead : List ℕ
+sumHead = 115 ∷ 117 ∷ 109 ∷ 32 ∷ []
+
+abbrev pub indexHead : List ℕ
+indexHead = 105 ∷ 110 ∷ 100 ∷ 101 ∷ 120 ∷ 32 ∷ []
+
+abbrev pub refusedHead : List ℕ
+refusedHead = 114 ∷ 101 ∷ 102 ∷ 117 ∷ 115 ∷ 101 ∷ 100 ∷ 32 ∷ []
+
+-- the values after a refusal's number, each after a blank
+abbrev pub values : List ℕ → List ℕ
+values [] = []
+values (v ∷ vs) = blank ∷ (text v ++ values vs)
+
+-- "Each section is a line with its name and its count of values, then the values, one a line, with numbers and line ends as in a
+-- sheet. Additions, starred columns and heads stand in row or column order. A refusal prints one line: `refused 6`, or `refused 10
+-- 7` for line 7."
+abbrev pub printed : Said Figures → List ℕ
+printed (gives f) =
+    labelSection addsHead (map text (f .adds))
+    ++ (labelSection starsHead (map text (f .stars))
+    ++ (labelSection headsHead (map signed (f .heads))
+    ++ (labelSection sumHead (signed (f .sum) ∷ []) ++ labelSection indexHead (text (f .index) ∷ []))))
+printed (refuses k vs) = ended (refusedHead ++ (text k ++ values vs))

@@ -8,11 +8,15 @@ ghost use Rattle.reader.specs.declared.Read.{Read};
 ghost use Rattle.writer.specs.Promise.{WritePromise, handed};
 ghost use Rattle.writer.specs.Promise as writer;
 ghost use Rattle.writer.specs.declared.Written.{Written};
+ghost use Rattle.printing.specs.Promise.{PrintPromise};
+ghost use Rattle.printing.specs.Promise as printing;
+ghost use Rattle.printing.specs.declared.Printed.{Printed};
 ghost use Rattle.exports.specs.Told.{Told, ToldRead, itself, bit, spoken};
 use canon::Answer;
 use canon::Verdict;
 use orders::Refusal;
 use orders::number;
+use printing::Printed;
 use reader::Read;
 use writer::Written;
 
@@ -150,5 +154,20 @@ pub extern "C" fn canon_write_sheet(
             0
         }
         Written::Refused(refusal) => number(refusal),
+    }
+}
+
+// The program's whole answer. Rules out a length written on a refusal, a length kept back, and another number than the refusal's.
+#[no_mangle]
+pub extern "C" fn canon_print(sheet: &[u8], out: &mut [u8], length: &mut usize) -> u32
+    ensures { λ r. ⌜ Told (λ (a : Printed). PrintPromise (now (sheet .entry)) (now (out .entry)) (now (out .exit)) (printing.says a)) printing.says itself r (now (length .entry)) (now (length .exit)) ⌝ }
+{
+    let answer = printing::print_answer(sheet, out);
+    match answer {
+        Printed::Bytes(written) => {
+            *length = written;
+            0
+        }
+        Printed::Refused(refusal) => number(refusal),
     }
 }

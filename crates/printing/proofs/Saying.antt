@@ -28,7 +28,9 @@ use Rattle.reader.specs.Promise as reading
 use Rattle.reader.specs.declared.Read.{Read}
 use Rattle.reader.specs.declared.Read.the-variants as read
 use Rattle.printing.specs.Printed.{Figures, printed}
-use Rattle.printing.specs.Promise.{PrintPromise, no-room, wrote, FiguresOf, TableSays, no-transversal, solved, SheetSays, too-long, wrong-line, of-table}
+use Rattle.printing.specs.Promise.{says, PrintPromise, no-room, wrote, FiguresOf, TableSays, no-transversal, solved, SheetSays, too-long, wrong-line, of-table}
+use Rattle.printing.specs.declared.Printed as declared
+use Rattle.printing.specs.declared.Printed.the-variants.{Bytes}
 use Rattle.printing.specs.Parts.{Largest, Tabled, Prints}
 
 -- ---- the solver
@@ -195,3 +197,12 @@ module _ (s page page′ : List ℕ) (k : ℕ) (p : Prints (SheetSays s) page pa
   copied out out′ w h q =
       wrote (p .said) (p .holds) (omega (arith, p .puts .puts .is-length)) (ap gives (q .is-length ∙ ap length on-page))
       (q .is ∙ ap (λ x. over x out) on-page)
+
+-- ---- for callers: as many bytes as are told stand in the room
+pub bytes-inside : (s room room′ : List ℕ) (r : declared.Printed) (k : ℕ) → PrintPromise s room room′ (says r) → r ≡ Bytes k → k ≤ length room′
+bytes-inside s room room′ r k (no-room a h l e f) q =
+    let b : gives k ≡ refuses 12 [] = sym (ap says q) ∙ e in absurd (let o : _≡_ {A = ℕ} 0 1 = cc in omega arith)
+bytes-inside s room room′ r k (wrote a h l e f) q =
+    let b : gives k ≡ gives (length (printed a)) = sym (ap says q) ∙ e in
+    let c : k ≡ length (printed a) = cc in
+    omega (arith, ap length f, length-append (printed a) (drop (length (printed a)) room))

@@ -13,8 +13,6 @@ fn main() {
     let mut room = [0u8; ROOM];
     let printed = print_answer(&sheet[..n], &mut room);
     if let Printed::Bytes(k) = printed {
-        if k <= ROOM {
-            io::write_all(1, &room[..k]);
-        }
+        io::write_all(1, &room[..k]);
     }
 }

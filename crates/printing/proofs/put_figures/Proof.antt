@@ -9,10 +9,6 @@ use Rattle.sheet.specs.Sheet.{labelSection}
 use Rattle.printing.specs.Printed.{sumHead}
 use Rattle.printing.proofs.put_figures.Statement.{statement}
 use Rattle.printing.proofs.put_figures.Tie as tie
-use Rattle.printing.proofs.put_figures.Reads as reads
-use Rattle.printing.proofs.put_figures.Lts as lts
-use Rattle.printing.proofs.add_numbers.Reads as add-numbers-reads
-use Rattle.printing.proofs.add_signed.Reads as add-signed-reads
 
 slice-aggregate-add-numbers : tie.Need-slice-aggregate-add-numbers
 slice-aggregate-add-numbers c = search needs

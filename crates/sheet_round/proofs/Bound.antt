@@ -14,7 +14,8 @@ use Rattle.sheet.specs.Labels.{Form, Labels}
 use Rattle.sheet.specs.Sheet.{Labelled, Stands, labelLines, isAbsent, presentCount, orderLine, orderLines, labelSection, orderSection, sheetOf}
 use Rattle.sheet.proofs.Orders.{absent-not, row-inside, col-inside, entries-right}
 use Rattle.sheet.proofs.Slots.{Short, short-tail, labels-short}
-use Rattle.writer.proofs.OrderLaws.{text-99, text-4, signed-short, order-text-length, line-absent, line-present, count-le}
+use Rattle.lettering.proofs.TextLaws.{text-within}
+use Rattle.writer.proofs.OrderLaws.{signed-short, order-text-length, line-absent, line-present, count-le}
 
 -- a label's line has at most 9 bytes
 lines-short : (ls : List (List ℕ)) → Short ls → length (labelLines ls) ≤ 9 * length ls
@@ -37,8 +38,8 @@ line-short n p v false e h g o =
       arith,
       ap length (line-present n p v e),
       order-text-length (p / n) (p % n) v,
-      text-99 (p / n + 1) (omega (arith, row-inside n p g)),
-      text-99 (p % n + 1) (omega (arith, col-inside n p g)),
+      text-within 1 (p / n + 1) (omega (arith, row-inside n p g)),
+      text-within 1 (p % n + 1) (omega (arith, col-inside n p g)),
       signed-short v (o (absent-not v e)),
     )
 
@@ -71,9 +72,9 @@ sheet-fits t w =
       heading-short rowsHead n,
       heading-short colsHead (length (t .col-labels)),
       heading-short ordersHead (presentCount e),
-      text-99 n (omega (arith, w .few)),
-      text-99 (length (t .col-labels)) (omega (arith, w .few, w .same)),
-      text-4 (presentCount e) (omega (arith, count-le e, w .square)),
+      text-within 1 n (omega (arith, w .few)),
+      text-within 1 (length (t .col-labels)) (omega (arith, w .few, w .same)),
+      text-within 3 (presentCount e) (omega (arith, count-le e, w .square)),
       lines-short (t .row-labels) (labels-short (t .row-labels) (w .rows-stand)),
       lines-short (t .col-labels) (labels-short (t .col-labels) (w .cols-stand)),
       orders-short n 0 e (w .few) (omega (arith, w .square)) (w .entries-stand),

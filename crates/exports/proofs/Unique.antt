@@ -17,6 +17,10 @@ use Rattle.writer.specs.Promise.{WritePromise, Handed}
 use Rattle.writer.specs.Promise as writer
 use Rattle.writer.specs.declared.Written.{Written}
 use Rattle.writer.proofs.Unique.{write-once}
+use Rattle.printing.specs.Promise.{PrintPromise}
+use Rattle.printing.specs.Promise as printing
+use Rattle.printing.specs.declared.Printed.{Printed}
+use Rattle.printing.proofs.Unique.{print-once}
 use Rattle.exports.specs.Told.{Tells, gave, kept-back, itself, bit, Told, spoken, TellsRead, read, at-line, refused, ToldRead}
 
 -- what an answer is returned as
@@ -66,6 +70,16 @@ writing-once {h} {o} {p} {p′} f g =
     let (e, m) = write-once h o p p′ (f .answer) (g .answer) (f .promised) (g .promised) in
     let (r, s) = told-once f g e in
     (r, s, m)
+
+-- The printed answer: what is returned, the length and the room.
+pub printing-once : {s room p p′ : List ℕ} {r q length after other : ℕ}
+    → Told (λ (x : Printed). PrintPromise s room p (printing.says x)) printing.says itself r length after
+    → Told (λ (x : Printed). PrintPromise s room p′ (printing.says x)) printing.says itself q length other
+    → (r ≡ q) × (after ≡ other) × (p ≡ p′)
+printing-once {s} {room} {p} {p′} f g =
+    let (e, m) = print-once s room p p′ (f .answer) (g .answer) (f .promised) (g .promised) in
+    let (r, t) = told-once f g e in
+    (r, t, m)
 
 -- what N and the line then hold
 abbrev n-held : ℕ → Said ℕ → ℕ

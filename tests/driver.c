@@ -136,10 +136,8 @@ static uint32_t call(uint8_t number, size_t n, struct part *p) {
     case 6:
         return canon_write_sheet(n, SLICE(int16_t, 0), SLICE(uint8_t, 1), SLICE(uint8_t, 2), SLICE(uint8_t, 3),
                                  SINGLE(size_t, 4));
-#ifndef WITHOUT_PRINT
     case 7:
         return canon_print(SLICE(uint8_t, 0), SLICE(uint8_t, 1), SINGLE(size_t, 2));
-#endif
     default:
         _exit(6);
     }

@@ -59,17 +59,13 @@ link_all() { # FROM TO BUT
     done
 }
 
-# Until the archive has canon_print the driver does without it.
-flags=()
-grep -q 'fn canon_print' crates/exports/src/lib.rt || flags=(-DWITHOUT_PRINT)
-
 # Compiles a C file for x86-64 and links it with the archive of the kit.
 build_c() { # FILE.c PROGRAM
     if [ "$machine" = x86_64 ]; then
-        cc -std=c11 -Wall -Wextra -O2 "${flags[@]}" -Iinclude "$1" target/staticlib/libexports.a -o "$2"
+        cc -std=c11 -Wall -Wextra -O2 -Iinclude "$1" target/staticlib/libexports.a -o "$2"
         return
     fi
-    "$tools/bin/clang" --target=x86_64-unknown-linux-gnu -std=c11 -Wall -Wextra -O2 -fPIC "${flags[@]}" -Iinclude -isystem tests/headers -c "$1" -o "$2.o"
+    "$tools/bin/clang" --target=x86_64-unknown-linux-gnu -std=c11 -Wall -Wextra -O2 -fPIC -Iinclude -isystem tests/headers -c "$1" -o "$2.o"
     "$kit/on/$machine/bin/rattle-link" --target x86_64-unknown-linux-gnu --toolchain "$tools" -o "$2" "$2.o" target/staticlib/libexports.a 2>"$2.log" \
         || { cat "$2.log"; return 1; }
 }

@@ -59,7 +59,6 @@ impl Tally {
         ];
         let pairs = possible.iter().flat_map(|(call, numbers)| numbers.iter().map(move |number| (*call, *number)));
         pairs
-            .filter(|(call, _)| printing() || *call != Call::Print)
             .filter(|(call, number)| !self.given.contains_key(&(*call as u8, *number)))
             .map(|(call, number)| format!("{call:?} never gave {number}"))
             .collect()
@@ -151,7 +150,7 @@ fn random_sheets(driver: &mut Driver, chance: &mut Chance, tally: &mut Tally, co
             let changed = if chance.once_in(2, 3) { sheets::mutated(chance, &sheet) } else { sheet };
             requests.push(sheets::read_request(chance, &changed));
             requests.push(sheets::write_request(chance, &labelled));
-            if n < 7 && printing() {
+            if n < 7 {
                 requests.push(sheets::print_request(chance, &changed));
             }
         }
@@ -187,11 +186,6 @@ fn example_sheets(driver: &mut Driver, chance: &mut Chance, tally: &mut Tally, f
     names.len()
 }
 
-/// Does the archive have the call that prints?
-fn printing() -> bool {
-    std::env::var("WITHOUT_PRINT").map_or(true, |words| words.is_empty())
-}
-
 fn main() {
     let words: Vec<String> = std::env::args().skip(1).collect();
     let [seed, count, vectors, examples, driver @ ..] = &words[..] else {
@@ -209,7 +203,7 @@ fn main() {
     small_tables(&mut driver, &mut chance, &mut tally, count);
     large_tables(&mut driver, &mut chance, &mut tally, count / 20);
     random_sheets(&mut driver, &mut chance, &mut tally, count);
-    let sheets = if printing() { example_sheets(&mut driver, &mut chance, &mut tally, examples) } else { 0 };
+    let sheets = example_sheets(&mut driver, &mut chance, &mut tally, examples);
     let missing = tally.missing();
     missing.iter().for_each(|words| println!("{words}"));
     let ended = driver.finish();

@@ -5,7 +5,7 @@ use mathlib.Core.List.{List}
 use Prim.Native.Nat.{ℕ, _+_, _*_, _≤_, _<_}
 use native.Mathlib.Decide.{decLt}
 use native.Mathlib.Omega.{arith}
-use lib.Dec.{T}
+use lib.Dec.{T, eqb, eqb→eq, eqb-refl}
 use lib.IntN.{ℤ, pos}
 use lib.ListN.{set, length-set, replicate, getD-replicate}
 use lib.Signed.{mag}
@@ -20,7 +20,7 @@ use Rattle.orders.proofs.Places.{within}
 use Rattle.growth.specs.declared.Least.{Least}
 use Rattle.growth.specs.declared.Grown.{Grown}
 use Rattle.growth.specs.Steps.{none, Long, Joining, LookedAt, Rising, RisenBy}
-use Rattle.growth.specs.Standing.{climb, Tight, Flipped, Ready, Meeting}
+use Rattle.growth.specs.Standing.{climb, Tight, Free, Flipped, Ready, Meeting}
 use Rattle.growth.specs.Grown.{Startable, Whole}
 use Rattle.growth.proofs.Stores.{Put, put-nums, put-flags, unreached, unreached-less}
 use Rattle.growth.proofs.Growth.{by-flag, flag-set}
@@ -171,6 +171,28 @@ module _ {t : List ℤ} {n : ℕ} {start : ℕ → ℕ} {s : ℕ} {l₀ : List �
                       (put-flags (set tree row true) (nums ρ (r .column)) true (omega (arith, length-set tree row true, o .long .4, rd .square .small)))
                       put-column (put-nums g′ (r .column) none (omega (arith, v .long .2, end-inside, rd .square .small)));
                 }
+
+-- Row s is tight in an unmarked column as it stands: nothing has to rise, and the tree is row s alone.
+pub met-at-once : {t : List ℤ} {n : ℕ} {start : ℕ → ℕ} {s : ℕ} {l : List ℕ} {h : List ℤ} {ρ κ : List ℕ} → Ready t n start s l h ρ κ → s < n
+    → (givers : List ℕ) (j : ℕ) → Long givers → j < n → Free n (entry t n) s (nums l) (ints h) (nums ρ) j → Meeting t n start s l h ρ κ (set givers j s) j
+met-at-once {s = s} rd hs givers j long hj free =
+    let only : (i : ℕ) → T (eqb i s) → i ≡ s = λ i e. eqb→eq i s e in
+    record {
+      standing = rd .standing;
+      way = record {
+        small = rd .square .small;
+        inserted = hs;
+        marking = rd .standing .marking;
+        tree = λ i. eqb i s;
+        rank = λ i. 0;
+        early = λ i hi e. omega (arith, only i e);
+        inside = hj;
+        free = free .unmarked;
+        last = rw (put-nums givers j s (omega (arith, long, rd .square .small)) .at) (hs, eqb-refl s, free .tight);
+        link = λ i hi e. absurd (omega (arith, only i e));
+      };
+      top = λ i hi. omega (arith, rd .top i hi);
+    }
 
 -- the way back is gone: row s has its mark, and the rows below s + 1 are inserted
 pub inserted : {t : List ℤ} {n : ℕ} {start : ℕ → ℕ} {s : ℕ} {l₀ : List ℕ} {h₀ : List ℤ} {ρ κ : List ℕ} → Ready t n start s l₀ h₀ ρ κ

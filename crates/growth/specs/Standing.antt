@@ -23,6 +23,11 @@ module _ (n : ℕ) (a : ℕ → ℕ → ℤ) where
     pub present : Present (a i j)
     pub is : raised n a l i j ≡ h j
 
+  -- column j is unmarked, and row s is tight there
+  pub record Free (s : ℕ) (l : ℕ → ℕ) (h : ℕ → ℤ) (ρ : ℕ → ℕ) (j : ℕ) : Type 0 where
+    pub unmarked : n ≤ ρ j
+    pub tight : Tight l h s j
+
   -- The marks when the rows below s are inserted: each of these rows has a column, no two the same, and is tight there. The row of
   -- a column is ρ j, n or more where it has none; the column of a row is κ i.
   pub record Marking (s : ℕ) (l : ℕ → ℕ) (h : ℕ → ℤ) (ρ κ : ℕ → ℕ) : Type 0 where

@@ -3,10 +3,11 @@ ghost use Prim.Native.Nat.{_+_, _*_, _≤_, _<_};
 ghost use lib.IntN.{pos, _+ℤ_};
 ghost use lib.Signed.{mag};
 ghost use Rattle.theory.specs.Limits.{order};
-ghost use Rattle.theory.specs.Table.{Present};
+ghost use Rattle.theory.specs.Lists.{nums, ints};
+ghost use Rattle.theory.specs.Table.{Present, entry};
 ghost use Rattle.orders.specs.Places.{room, Square, Roomy};
 ghost use Rattle.growth.specs.Steps.{none, Long, Fitting, Nearer, Lesser, Joining, LookedAt, share, Lowered, Rising, RisenBy};
-ghost use Rattle.growth.specs.Standing.{SomeWay, Flipped, SomeReady, SomeColumns, Met, Inserted, FirstOf};
+ghost use Rattle.growth.specs.Standing.{Free, SomeWay, Flipped, SomeReady, SomeColumns, Met, Inserted, FirstOf};
 ghost use Rattle.growth.specs.Grown.{Startable, GrownFrom};
 use orders::ABSENT;
 use orders::ROWS;
@@ -241,6 +242,73 @@ fn reach(
     }
 }
 
+// An unmarked column in which row s is tight as it stands, or ROWS where none is found. Rules out a column that is marked, and one in
+// which the row is absent or below the head.
+fn free_column(
+    table: &[i16],
+    n: usize,
+    s: usize,
+    additions: &[u32; ROWS],
+    heads: &[i32; ROWS],
+    rows: &[usize; ROWS],
+) -> usize
+    requires { ⌜ Square (now table) n × (s < n) × (nums (now additions) s ≤ room) ⌝ }
+    ensures { λ r. ⌜ (r < n → Free n (entry (now (table .entry)) n) s (nums (now (additions .entry))) (ints (now (heads .entry))) (nums (now (rows .entry))) r) ⌝ }
+{
+    let addition = additions[s];
+    let mut j = 0;
+    while j < n {
+        if n <= rows[j] {
+            let order = orders::place(table, n, s, j);
+            if orders::tight(order, addition, heads[j]) {
+                return j;
+            }
+        }
+        j += 1;
+    }
+    ROWS
+}
+
+// An unmarked column that is tight for a row of a tree from row s, or ROWS where there is none to reach. Where row s itself is tight in
+// one, that row is the tree; else a tree is grown. On tables with many ties most rows need no tree.
+fn meet(
+    table: &[i16],
+    n: usize,
+    s: usize,
+    rows: &[usize; ROWS],
+    additions: &mut [u32; ROWS],
+    heads: &mut [i32; ROWS],
+    givers: &mut [usize; ROWS],
+) -> usize
+    requires { ⌜ SomeColumns (now table) n s (now additions) (now heads) (now rows) × Long (now givers) ⌝ }
+    ensures { λ r. ⌜ Met
+        (now (table .entry))
+        n
+        s
+        (now (additions .entry))
+        (now (heads .entry))
+        (now (rows .entry))
+        r
+        (now (additions .exit))
+        (now (heads .exit))
+        (now (givers .exit)) ⌝ }
+{
+    let column = free_column(table, n, s, &*additions, &*heads, rows);
+    if column < n {
+        givers[column] = s;
+        return column;
+    }
+    reach(
+        table,
+        n,
+        s,
+        rows,
+        &mut *additions,
+        &mut *heads,
+        &mut *givers,
+    )
+}
+
 // The way back from the unmarked column `end` to row s: each row on the way takes the column that it gives. Rules out a row or a
 // column that loses its mark, and a mark at a place that is not tight.
 fn flip(
@@ -299,7 +367,7 @@ fn insert(
         (now (columns .exit)) ⌝ }
 {
     let mut givers = [0usize; ROWS];
-    let end = reach(
+    let end = meet(
         table,
         n,
         s,

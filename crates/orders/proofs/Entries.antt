@@ -1,14 +1,16 @@
 -- What the tests of an entry tell. Assumes nothing.
-use mathlib.Core.Path.{_≡_, refl, sym}
+use mathlib.Core.Path.{_≡_, refl, sym, _∙_, ap}
 use mathlib.Core.Bool.{Bool, true, false}
 use mathlib.Core.List.{List}
 use Prim.Native.Nat.{ℕ, _+_, _^_, _<_, _≤_}
 use native.Mathlib.Decide.{ℕ-discrete}
 use native.Mathlib.Omega.{arith}
-use lib.IntN.{ℤ, pos, negsuc}
+use lib.Dec.{eqb}
+use lib.IntN.{ℤ, pos, negsuc, _+ℤ_}
 use lib.ListN.{length, getD}
 use lib.Signed.{_≤ℤ_, ltZ, leZ, mag}
-use mir.Syntax.{Width, w16}
+use borrow.Author.Tests.{eqb-true, eqb-false}
+use mir.Syntax.{Width, w16, w32}
 use mir.Val.{SFits, ofZ, toZ, hbits}
 use mir.Facts.{toZ-ofZ}
 use Rattle.theory.specs.Table.{absent, Present, Order, Entries}
@@ -63,3 +65,19 @@ read-le {w} {x} {y} f g t = let u : leZ x y ≡ true = simp (toZ-ofZ) at t in om
 
 pub read-gt : {w : Width} {x y : ℤ} → SFits w x → SFits w y → leZ (toZ w (ofZ w x)) (toZ w (ofZ w y)) ≡ false → y ≤ℤ x
 read-gt {w} {x} {y} f g t = let u : leZ x y ≡ false = simp (toZ-ofZ) at t in omega (arith, signed)
+
+-- signed numbers with the same bits are the same
+pub bits-same : {w : Width} {x y : ℤ} → SFits w x → SFits w y → ofZ w x ≡ ofZ w y → x ≡ y
+bits-same {w} f g e = sym (toZ-ofZ f) ∙ ap (toZ w) e ∙ toZ-ofZ g
+
+-- the two ways through the test whether an order, raised, is the head h; x is the raised order
+pub tight-absent : (v : ℤ) (l : ℕ) (h : ℤ) → SFits w16 v → ofZ w16 v ≡ 32768 → Tells false (Present v × (v +ℤ pos l ≡ h))
+tight-absent v l h f e = tells-no (λ m. m .0 (absent-bits v f e))
+
+pub tight-present : (v : ℤ) (l : ℕ) (h x : ℤ) → (ofZ w16 v ≡ 32768 → ⊥) → x ≡ v +ℤ pos l → SFits w32 x → SFits w32 h
+    → Tells (eqb (ofZ w32 x) (ofZ w32 h)) (Present v × (v +ℤ pos l ≡ h))
+tight-present v l h x ne e f g =
+    record {
+      holds = λ same. (present-bits v ne, sym e ∙ bits-same f g (eqb-true _ _ same));
+      fails = λ other m. eqb-false _ _ other (ap (ofZ w32) (e ∙ m .1));
+    }

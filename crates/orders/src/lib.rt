@@ -101,6 +101,17 @@ pub fn raise(order: i16, addition: u32) -> i32
     order as i32 + addition as i32
 }
 
+// Is an order present and, raised, the head given? Rules out an absent place taken for an order, and another head.
+pub fn tight(order: i16, addition: u32, head: i32) -> bool
+    requires { ⌜ addition ≤ room ⌝ }
+    ensures { λ r. ⌜ Tells r (Present order × (order +ℤ pos addition ≡ head)) ⌝ }
+{
+    if order == ABSENT {
+        return false;
+    }
+    raise(order, addition) == head
+}
+
 // A column's head, as far as it is known: whether an order is present, and the largest raised order.
 pub struct Top {
     pub present: bool,

@@ -7,7 +7,6 @@ ghost use Rattle.orders.specs.Tested.{Tells};
 ghost use Rattle.stars.specs.Given.{Given, Ready};
 ghost use Rattle.stars.specs.Search.{Least, Columns, Joined, FoundIn, Scanned, Searched};
 ghost use Rattle.stars.specs.Shift.{MarkedIn, Swapped, Settled, Later};
-use orders::ABSENT;
 use orders::ROWS;
 
 // The marks of a complete transversal: the row of each column and the column of each row.
@@ -39,10 +38,7 @@ fn tight(
     ensures { λ r. ⌜ Tells r (Maximum n (entry (now (table .entry)) n) (nums (now (additions .entry))) i j) ⌝ }
 {
     let order = orders::place(table, n, i, j);
-    if order == ABSENT {
-        return false;
-    }
-    orders::raise(order, additions[i]) == heads[j]
+    orders::tight(order, additions[i], heads[j])
 }
 
 // The least column before `own` in which row i has a maximum and whose marked row is eligible, or else `own`. The contract rules out

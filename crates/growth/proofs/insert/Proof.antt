@@ -5,14 +5,14 @@ use Rattle.growth.proofs.Inserting.{inserted}
 use Rattle.growth.proofs.insert.Statement.{statement}
 use Rattle.growth.proofs.insert.Tie as tie
 
-reach-requires : tie.Need-reach-requires
-reach-requires c κs =
+meet-requires : tie.Need-meet-requires
+meet-requires c κs =
     let s = c .before .before .before .before in
     (record { column-of = s .args .columns .now; ready = s .pre }, refl)
 
 returns : tie.Need-returns
 returns c =
-    let k = c .before .reach in
+    let k = c .before .meet in
     let p = c .before .before .before .before .before .before .pre in
     record {
       ready = λ e. clash e refl;
@@ -22,7 +22,7 @@ returns c =
 
 flip-requires : tie.Need-flip-requires
 flip-requires c κs =
-    let k = c .before .before .before .before .reach in
+    let k = c .before .before .before .before .meet in
     let s = c .before .before .before .before .before .before .before .before .before in
     let p = s .pre in
     let m = k .ensures .meets (c .before .before .before .if1 .left) (p .start) (s .args .columns .now) (p .ready) in
@@ -30,7 +30,7 @@ flip-requires c κs =
 
 returns-2 : tie.Need-returns-2
 returns-2 c =
-    let k = c .before .before .before .before .before .reach in
+    let k = c .before .before .before .before .before .meet in
     let p = c .before .before .before .before .before .before .before .before .before .before .pre in
     let f = c .flip in
     record {
@@ -40,4 +40,4 @@ returns-2 c =
     }
 
 pub insert-spec : {M : Type 1} → statement M
-insert-spec = tie.close (tie.spec reach-requires returns flip-requires returns-2)
+insert-spec = tie.close (tie.spec meet-requires returns flip-requires returns-2)

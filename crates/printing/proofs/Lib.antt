@@ -2,3 +2,4 @@ pub mod Pages
 pub mod Figures
 pub mod Saying
 pub mod Unique
+pub mod Shown

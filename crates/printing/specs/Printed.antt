@@ -2,7 +2,7 @@
 use mathlib.Core.List.{List, [], _∷_, _++_, map}
 use Prim.Native.Nat.{ℕ}
 use lib.IntN.{ℤ}
-use Rattle.sheet.specs.Text.{blank, text, signed, ended}
+use Rattle.sheet.specs.Text.{blank, ascii, text, signed, ended}
 use Rattle.sheet.specs.Sheet.{labelSection}
 use Rattle.orders.specs.Refusals.{Said, gives, refuses}
 
@@ -16,22 +16,22 @@ pub record Figures : Type 0 where
 
 -- `adds `, `stars `, `heads `, `sum `, `index ` and `refused `
 abbrev pub addsHead : List ℕ
-addsHead = 97 ∷ 100 ∷ 100 ∷ 115 ∷ 32 ∷ []
+addsHead = ascii "adds "
 
 abbrev pub starsHead : List ℕ
-starsHead = 115 ∷ 116 ∷ 97 ∷ 114 ∷ 115 ∷ 32 ∷ []
+starsHead = ascii "stars "
 
 abbrev pub headsHead : List ℕ
-headsHead = 104 ∷ 101 ∷ 97 ∷ 100 ∷ 115 ∷ 32 ∷ []
+headsHead = ascii "heads "
 
 abbrev pub sumHead : List ℕ
-sumHead = 115 ∷ 117 ∷ 109 ∷ 32 ∷ []
+sumHead = ascii "sum "
 
 abbrev pub indexHead : List ℕ
-indexHead = 105 ∷ 110 ∷ 100 ∷ 101 ∷ 120 ∷ 32 ∷ []
+indexHead = ascii "index "
 
 abbrev pub refusedHead : List ℕ
-refusedHead = 114 ∷ 101 ∷ 102 ∷ 117 ∷ 115 ∷ 101 ∷ 100 ∷ 32 ∷ []
+refusedHead = ascii "refused "
 
 -- the values after a refusal's number, each after a blank
 abbrev pub values : List ℕ → List ℕ

@@ -1,5 +1,8 @@
 -- The bytes of a sheet: numbers, headings, lines. "all ASCII, every line ended by one line feed".
 use Prim.Native.Nat.{ℕ, zero, suc, _+_, _/_, _%_, _<_}
+use Prim.Native.Char.{code}
+use Prim.Native.String as string
+use Prim.Native.String.{String}
 use mathlib.Core.Bool.{cond}
 use mathlib.Core.List.{List, [], _∷_, _++_}
 use lib.Dec.{ltb}
@@ -15,15 +18,20 @@ blank = 32
 abbrev pub minus : ℕ
 minus = 45
 
+-- the bytes of an ASCII text
+abbrev pub ascii : String → List ℕ
+ascii string.[] = []
+ascii (string._∷_ c s) = code c ∷ ascii s
+
 -- `rows `, `cols ` and `orders `
 abbrev pub rowsHead : List ℕ
-rowsHead = 114 ∷ 111 ∷ 119 ∷ 115 ∷ 32 ∷ []
+rowsHead = ascii "rows "
 
 abbrev pub colsHead : List ℕ
-colsHead = 99 ∷ 111 ∷ 108 ∷ 115 ∷ 32 ∷ []
+colsHead = ascii "cols "
 
 abbrev pub ordersHead : List ℕ
-ordersHead = 111 ∷ 114 ∷ 100 ∷ 101 ∷ 114 ∷ 115 ∷ 32 ∷ []
+ordersHead = ascii "orders "
 
 -- at most f decimal digits of n, the last ones, the most significant first
 unfoldable pub digits : ℕ → ℕ → List ℕ

@@ -1,0 +1,148 @@
+-- For the pendulum's sheet the promise of printing leaves one answer open: document 01's, byte by byte. Assumes nothing.
+use mathlib.Core.Path.{_≡_, refl, ap, _∙_}
+use mathlib.Core.Logic.{_≢_}
+use mathlib.Core.Bool.{Bool, _&&_}
+use mathlib.Core.List.{List, [], _∷_}
+use Prim.Native.Nat.{ℕ, zero, suc, _-_, _≤_, _<_}
+use native.Mathlib.Omega.{arith}
+use lib.Dec.{T, leb, leb→le}
+use lib.IntN.{pos}
+use lib.ListN.{length, getD}
+use Rattle.theory.specs.Canon.{Index}
+use Rattle.theory.specs.Cases.{Right, nothing, answer, pendulum}
+use Rattle.theory.specs.Table.{entry}
+use Rattle.theory.specs.Lists.{nums}
+use Rattle.theory.proofs.Cases.{cases-right}
+use Rattle.theory.proofs.Search.{all, all-told, both, every, every-told}
+use Rattle.orders.specs.Refusals.{Said, gives, refuses}
+use Rattle.sheet.specs.Text.{ascii, over, text, digits}
+use Rattle.sheet.specs.Labels.{small, width, Form, Labels}
+use Rattle.sheet.specs.Sheet.{Labelled, Stands, sheetOf, labelLines, orderLines, presentCount}
+use Rattle.sheet.proofs.Matching.{written-is-read}
+use Rattle.printing.specs.Printed.{Figures, printed}
+use Rattle.printing.specs.Shown.{pendulum-sheet, pendulum-answer}
+use Rattle.printing.specs.Promise.{SheetSays, solved, of-table, PrintPromise, no-room, wrote}
+use Rattle.printing.proofs.Unique.{sheet-once}
+
+-- the table with its labels, and its figures
+abbrev drawn : Labelled
+drawn =
+    record {
+      row-labels = ascii "fx" ∷ ascii "fy" ∷ ascii "rod" ∷ [];
+      col-labels = ascii "x" ∷ ascii "y" ∷ ascii "pull" ∷ [];
+      entries = pendulum;
+    }
+
+abbrev figures : Figures
+figures = record { adds = 0 ∷ 0 ∷ 2 ∷ []; stars = 1 ∷ 3 ∷ 2 ∷ []; heads = pos 2 ∷ pos 2 ∷ pos 0 ∷ []; sum = pos 2; index = 2 }
+
+-- both are computed: the one sheet of the labelled table, and the printed figures
+sheet-is : sheetOf drawn ≡ pendulum-sheet
+unfolding labelLines orderLines presentCount text digits
+sheet-is = refl
+
+answer-is : printed (gives figures) ≡ pendulum-answer
+unfolding labelLines text digits
+answer-is = refl
+
+-- "`refused 6`, or `refused 10 7` for line 7"
+pub refusal-prints : (printed (refuses 6 []) ≡ ascii "refused 6\n") × (printed (refuses 10 (7 ∷ [])) ≡ ascii "refused 10 7\n")
+unfolding text digits
+refusal-prints = (refl, refl)
+
+-- ---- the labels stand: a text of 1 to 8 small letters is a label, and these differ in their last letters
+letter : List ℕ → ℕ → Bool
+letter l k = leb 97 (getD l k 0) && leb (getD l k 0) 122
+
+letter-tests : List ℕ → List Bool
+letter-tests l = leb 1 (length l) ∷ leb (length l) width ∷ all (length l) (letter l) ∷ []
+
+form : (l : List ℕ) → T (every (letter-tests l)) → Form l
+unfolding letter-tests letter
+form l t =
+    record {
+      some = leb→le 1 (length l) (every-told (letter-tests l) t 0);
+      few = leb→le (length l) width (every-told (letter-tests l) t 1);
+      letters = λ k h.
+          let (low, high) = both (leb 97 (getD l k 0)) (leb (getD l k 0) 122) (all-told (length l) (letter l) (every-told (letter-tests l) t 2) k h) in
+          small (leb→le 97 (getD l k 0) low) (leb→le (getD l k 0) 122 high);
+    }
+
+last : List ℕ → ℕ
+last l = getD l (length l - 1) 0
+
+labels : (a b c : List ℕ) → T (every (letter-tests a)) → T (every (letter-tests b)) → T (every (letter-tests c)) → last a ≢ last b → last a ≢ last c → last b ≢ last c → Labels (a ∷ b ∷ c ∷ [])
+labels a b c p q r ab ac bc = record { form = at; apart = apart }
+  where
+    at : (k : ℕ) → k < 3 → Form (getD (a ∷ b ∷ c ∷ []) k [])
+    at zero h = form a p
+    at (suc zero) h = form b q
+    at (suc (suc zero)) h = form c r
+    at (suc (suc (suc k))) h = absurd (omega arith)
+
+    apart : (i k : ℕ) → i < k → k < 3 → getD (a ∷ b ∷ c ∷ []) i [] ≢ getD (a ∷ b ∷ c ∷ []) k []
+    apart zero zero x h = absurd (omega arith)
+    apart zero (suc zero) x h = λ e. ab (ap last e)
+    apart zero (suc (suc zero)) x h = λ e. ac (ap last e)
+    apart (suc i) zero x h = absurd (omega arith)
+    apart (suc zero) (suc zero) x h = absurd (omega arith)
+    apart (suc zero) (suc (suc zero)) x h = λ e. bc (ap last e)
+    apart (suc (suc i)) (suc zero) x h = absurd (omega arith)
+    apart (suc (suc i)) (suc (suc zero)) x h = absurd (omega arith)
+    apart i (suc (suc (suc k))) x h = absurd (omega arith)
+
+-- the P table, as it is proved in the theory
+right : Right (record {
+  size = 3;
+  table = pendulum;
+  handed = nothing;
+  outcome = answer (figures .adds) (figures .stars) (figures .heads) (figures .sum);
+})
+right = cases-right .1 .1 .1 .1 .1 .1 .1 .1 .1 .1 .0
+
+stands : Stands drawn
+unfolding every letter-tests letter all last
+stands =
+    record {
+      some = omega arith;
+      few = omega arith;
+      same = refl;
+      square = refl;
+      rows-stand = labels (ascii "fx") (ascii "fy") (ascii "rod") tt tt tt (omega arith) (omega arith) (omega arith);
+      cols-stand = labels (ascii "x") (ascii "y") (ascii "pull") tt tt tt (omega arith) (omega arith) (omega arith);
+      entries-stand = right .entries;
+    }
+
+index : Index 3 (entry pendulum 3) (nums (figures .adds)) 2
+index = record { row = 2; inside = omega arith; is = refl; largest = most }
+  where
+    most : (i : ℕ) → i < 3 → nums (figures .adds) i ≤ 2
+    most zero h = omega arith
+    most (suc zero) h = omega arith
+    most (suc (suc zero)) h = omega arith
+    most (suc (suc (suc i))) h = absurd (omega arith)
+
+says : SheetSays pendulum-sheet (gives figures)
+says =
+    of-table drawn (omega arith) (rw sheet-is at (written-is-read drawn stands))
+    (solved figures
+    (record {
+      adds-long = refl;
+      star-list = right .comes .1;
+      heads-long = refl;
+      solution = right .comes .4;
+      is-index = index;
+    })
+    refl)
+
+-- "prints exactly": given the room, the answer is its length, and the room begins with it
+pub pendulum-prints : (room room′ : List ℕ) (r : Said ℕ) → PrintPromise pendulum-sheet room room′ r → length pendulum-answer ≤ length room
+    → (r ≡ gives (length pendulum-answer)) × (room′ ≡ over pendulum-answer room)
+pendulum-prints room room′ r p fits = go p
+  where
+    is : (a : Said Figures) → SheetSays pendulum-sheet a → printed a ≡ pendulum-answer
+    is a s = ap printed (sheet-once pendulum-sheet a (gives figures) s says) ∙ answer-is
+
+    go : PrintPromise pendulum-sheet room room′ r → (r ≡ gives (length pendulum-answer)) × (room′ ≡ over pendulum-answer room)
+    go (no-room a s short e f) = absurd (omega (arith, ap length (is a s)))
+    go (wrote a s long e f) = (e ∙ ap (λ x. gives (length x)) (is a s), f ∙ ap (λ x. over x room) (is a s))

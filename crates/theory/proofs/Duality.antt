@@ -117,10 +117,10 @@ module _ (n : ℕ) (a : ℕ → ℕ → ℤ) where
         heads-less-additions = omega (arith, signed, e, plus (sum n a σ) (pos (totalℕ n l)), minus (total n h) (pos (totalℕ n l)));
         none-greater = λ τ t.
             omega (arith, signed, e, bounded l h heads τ t, plus (sum n a σ) (pos (totalℕ n l)), plus (sum n a τ) (pos (totalℕ n l)));
-        reached = λ τ t s i hi.
+        only-maxima-reach = λ τ t s i hi.
             head-maximum (heads (τ i) (t .inside i hi)) (t .present i hi)
             (tight-places l h heads τ t (rw (s, e) (≤ℤ-refl (total n h))) i hi);
-        reaches = λ τ t m. same τ (maxima-total heads (record { transversal = t; maximum = m }));
+        maxima-reach = λ τ t m. same τ (maxima-total heads (record { transversal = t; maximum = m }));
       }
     where
       e : sum n a σ +ℤ pos (totalℕ n l) ≡ total n h
@@ -140,7 +140,7 @@ module _ (n : ℕ) (a : ℕ → ℕ → ℤ) where
       let b = balance (heads-of (c .of-maxima)) (c .of-maxima) in
       record {
         transversal = g .transversal;
-        maximum = b .reached σ (g .transversal)
+        maximum = b .only-maxima-reach σ (g .transversal)
             (omega (arith, signed, b .none-greater σ (g .transversal), g .greatest (c .columns) (c .of-maxima .transversal)));
       }
 

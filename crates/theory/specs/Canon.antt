@@ -106,5 +106,5 @@ module _ (n : ℕ) (a : ℕ → ℕ → ℤ) where
   pub record Balance (l : ℕ → ℕ) (h : ℕ → ℤ) (s : ℤ) : Type 0 where
     pub heads-less-additions : s ≡ total n h -ℤ pos (totalℕ n l)
     pub none-greater : (τ : ℕ → ℕ) → Transversal τ → sum τ ≤ℤ s
-    pub reached : (τ : ℕ → ℕ) → Transversal τ → sum τ ≡ s → (i : ℕ) → i < n → Maximum l i (τ i)
-    pub reaches : (τ : ℕ → ℕ) → Transversal τ → ((i : ℕ) → i < n → Maximum l i (τ i)) → sum τ ≡ s
+    pub only-maxima-reach : (τ : ℕ → ℕ) → Transversal τ → sum τ ≡ s → (i : ℕ) → i < n → Maximum l i (τ i)
+    pub maxima-reach : (τ : ℕ → ℕ) → Transversal τ → ((i : ℕ) → i < n → Maximum l i (τ i)) → sum τ ≡ s

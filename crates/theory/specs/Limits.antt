@@ -1,4 +1,5 @@
--- Document 01's table of limits. The theory is over any limit; the code has these.
+-- Document 01's table of limits, those on what is handed in. (Its limits on what is found are theorems: `found-within` of the crate
+-- canon.) The theory is over any limit; the code has these.
 use Prim.Native.Nat.{ℕ}
 
 -- "rows N: 1 to 32"

@@ -13,7 +13,8 @@ use Rattle.outcome.specs.Completion.{Delivered}
 use Rattle.canon.specs.Answers.{said}
 use Rattle.canon.specs.Promises.{Routed, answered}
 use Rattle.canon.specs.declared.Answer.{Answer}
-use Rattle.canon.proofs.Refusing.{Sound, past-clear}
+use Rattle.handed.specs.Handed.{Sound}
+use Rattle.canon.proofs.Refusing.{past-clear}
 
 -- a call past all its tests, with the simplest canon delivered, keeps the promise
 pub routed : {more : List Test} {n : ℕ} {t : List ℤ} {ks : List ℕ} {l : List ℕ} {adds stars adds′ stars′ : List ℕ} {heads heads′ : List ℤ} {s : ℤ} {r : Answer}

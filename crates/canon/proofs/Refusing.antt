@@ -12,57 +12,61 @@ use Rattle.theory.specs.Lists.{nums}
 use Rattle.theory.specs.Table.{entry, Entries}
 use Rattle.theory.specs.Canon.{Transversal, Canon, Simplest}
 use Rattle.orders.specs.Places.{Square, Marks}
-use Rattle.orders.specs.Refusals.{Test, Lowest, Clear, gives, refuses}
-use Rattle.handed.specs.Conditions.{OutOfSize, Fitting, WrongLength, WrongEntry, basic, canon-more, canon-tests}
-use Rattle.handed.specs.Handed.{Basic}
+use Rattle.orders.specs.Refusals.{numberOf, Test, Lowest, Clear, gives, refuses}
+use Rattle.orders.specs.declared.Refusal.{Refusal}
+use Rattle.handed.specs.Conditions.{Fitting, basic, canon-more, canon-tests}
+use Rattle.handed.specs.Handed.{Sound, Basic}
+use Rattle.handed.specs.declared.FirstTests.{FirstTests}
+use Rattle.handed.specs.declared.FirstTests.the-variants as tests
 use Rattle.outcome.specs.Completion.{Lent}
 use Rattle.routes.specs.Routes.{GivenAdditions, GivenColumns}
 use Rattle.canon.specs.Answers.{said, judged}
 use Rattle.canon.specs.Promises.{Routed, refused, Judges, declines, says-yes, says-no}
 use Rattle.canon.specs.declared.Answer.{Answer}
+use Rattle.canon.specs.declared.Answer.the-variants.{Refused}
 use Rattle.canon.specs.declared.Verdict.{Verdict}
+use Rattle.canon.specs.declared.Verdict.the-variants as verdict
 
--- what a call has once the first three refusals do not apply
-pub record Sound (n : ℕ) (t : List ℤ) (ks : List ℕ) : Type 0 where
-  pub in-size : OutOfSize n → ⊥
-  pub square : Square t n
-  pub fitting : Fitting n ks
-  pub entries : Entries order t
+-- What is told of some lengths is told of others that are right exactly when those are.
+narrowed : {n : ℕ} {t : List ℤ} {ks js : List ℕ} {r : FirstTests} → (Fitting n ks → Fitting n js) → (Fitting n js → Fitting n ks) → Basic n t ks r → Basic n t js r
+narrowed {n} {t} {ks} {js} to back b =
+    record {
+      passed = λ e. let s = b .passed e in record { in-size = s .in-size; square = s .square; fitting = to (s .fitting); entries = s .entries };
+      refused = λ q e. let p = b .refused q e in (low (numberOf q) (p .0), p .1);
+    }
+  where
+    low : (k : ℕ) → Lowest (basic n t ks []) k → Lowest (basic n t js []) k
+    low k (inl p) = inl p
+    low k (inr (s, inl (w, e))) = inr (s, inl ((λ f. w (f .0, back (f .1))), e))
+    low k (inr (s, inr (w, p))) = inr (s, inr ((λ v. w (λ f. v (f .0, to (f .1)))), p))
 
 -- a length that is n itself asks nothing
-pub basic-own : {n : ℕ} {t : List ℤ} {ks : List ℕ} {r : ℕ} → Basic n t (n ∷ ks) r → Basic n t ks r
-basic-own b =
-    record {
-      size = b .size;
-      lengths = λ e. let (s, w) = b .lengths e in (s, λ f. w (f .0, (refl, f .1)));
-      entries = λ e. let (s, w, x) = b .entries e in (s, λ v. w (λ f. v (f .0, f .1 .1)), x);
-      clear = λ p q r. let (s, f, x) = b .clear p q r in (s, (f .0, f .1 .1), x);
-    }
+pub basic-own : {n : ℕ} {t : List ℤ} {ks : List ℕ} {r : FirstTests} → Basic n t (n ∷ ks) r → Basic n t ks r
+basic-own b = narrowed (λ f. f .1) (λ f. (refl, f)) b
 
 -- nor do three that are
-pub basic-given : {n k : ℕ} {t : List ℤ} {r : ℕ} → Basic n t (k ∷ n ∷ n ∷ n ∷ []) r → Basic n t (k ∷ []) r
-basic-given b =
-    record {
-      size = b .size;
-      lengths = λ e. let (s, w) = b .lengths e in (s, λ f. w (f .0, (f .1 .0, (refl, (refl, (refl, tt))))));
-      entries = λ e. let (s, w, x) = b .entries e in (s, λ v. w (λ f. v (f .0, (f .1 .0, tt))), x);
-      clear = λ p q r. let (s, f, x) = b .clear p q r in (s, (f .0, (f .1 .0, tt)), x);
-    }
+pub basic-given : {n k : ℕ} {t : List ℤ} {r : FirstTests} → Basic n t (k ∷ n ∷ n ∷ n ∷ []) r → Basic n t (k ∷ []) r
+basic-given b = narrowed (λ f. (f .0, tt)) (λ f. (f .0, (refl, (refl, (refl, tt))))) b
 
-module _ {n : ℕ} {t : List ℤ} {ks : List ℕ} {r : ℕ} (b : Basic n t ks r) where
-  pub sound : (r ≡ 1 → ⊥) → (r ≡ 2 → ⊥) → (r ≡ 3 → ⊥) → Sound n t ks
-  sound p q r = let (s, f, x) = b .clear p q r in record { in-size = s; square = f .0; fitting = f .1; entries = x }
+-- a refusal that is the lowest of the first three is the lowest of all
+first-lowest : (n : ℕ) (t : List ℤ) (ks : List ℕ) (more : List Test) (k : ℕ) → Lowest (basic n t ks []) k → Lowest (basic n t ks more) k
+first-lowest n t ks more k (inl p) = inl p
+first-lowest n t ks more k (inr (s, inl p)) = inr (s, inl p)
+first-lowest n t ks more k (inr (s, inr (w, inl p))) = inr (s, inr (w, inl p))
+first-lowest n t ks more k (inr (s, inr (w, inr p))) = absurd (p .1)
 
-  -- a route that refuses by one of the first three
-  module _ {more : List Test} {adds stars : List ℕ} {heads : List ℤ} {a : Answer} where
-    pub refuse-size : r ≡ 1 → said a ≡ refuses 1 [] → Routed (basic n t ks more) n t adds stars heads a adds stars heads
-    refuse-size e says = refused 1 (inl (b .size e, refl)) says refl refl refl
+-- a route, and the yes-or-no, that refuse by one of the first three
+module _ {n : ℕ} {t : List ℤ} {ks : List ℕ} {r : FirstTests} (b : Basic n t ks r) (q : Refusal) (e : r ≡ tests.Refused q) where
+  pub refuse-first : {more : List Test} {adds stars : List ℕ} {heads : List ℤ}
+      → Routed (basic n t ks more) n t adds stars heads (Refused q) adds stars heads
+  refuse-first {more} =
+      let p = b .refused q e in
+      refused (numberOf q) (first-lowest n t ks more (numberOf q) (p .0)) (ap (refuses (numberOf q)) (p .1)) refl refl refl
 
-    pub refuse-lengths : r ≡ 2 → said a ≡ refuses 2 [] → Routed (basic n t ks more) n t adds stars heads a adds stars heads
-    refuse-lengths e says = let (s, w) = b .lengths e in refused 2 (inr (s, inl (w, refl))) says refl refl refl
-
-    pub refuse-entries : r ≡ 3 → said a ≡ refuses 3 [] → Routed (basic n t ks more) n t adds stars heads a adds stars heads
-    refuse-entries e says = let (s, w, x) = b .entries e in refused 3 (inr (s, inr (w, inl (x, refl)))) says refl refl refl
+pub decline-first : {n : ℕ} {t : List ℤ} {given : List ℕ} {r : FirstTests} → Basic n t (length given ∷ []) r → (q : Refusal) → r ≡ tests.Refused q → Judges n t given (verdict.Refused q)
+decline-first {n} {t} {given} b q e =
+    let p = b .refused q e in
+    declines (numberOf q) (first-lowest n t (length given ∷ []) (canon-more n t given) (numberOf q) (p .0)) (ap (refuses (numberOf q)) (p .1))
 
 module _ {n : ℕ} {t : List ℤ} {ks : List ℕ} (s : Sound n t ks) where
   -- the first three do not apply: what the other tests say is said of all
@@ -77,17 +81,7 @@ module _ {n : ℕ} {t : List ℤ} {ks : List ℕ} (s : Sound n t ks) where
       → Routed (basic n t ks more) n t adds stars heads a adds stars heads
   refuse-later {more = more} k l says = refused k (past-lowest more k l) says refl refl refl
 
--- ---- the yes-or-no refuses
-module _ {n : ℕ} {t : List ℤ} {given : List ℕ} {r : ℕ} (b : Basic n t (length given ∷ []) r) {v : Verdict} where
-  pub decline-size : r ≡ 1 → judged v ≡ refuses 1 [] → Judges n t given v
-  decline-size e says = declines 1 (inl (b .size e, refl)) says
-
-  pub decline-lengths : r ≡ 2 → judged v ≡ refuses 2 [] → Judges n t given v
-  decline-lengths e says = let (s, w) = b .lengths e in declines 2 (inr (s, inl (w, refl))) says
-
-  pub decline-entries : r ≡ 3 → judged v ≡ refuses 3 [] → Judges n t given v
-  decline-entries e says = let (s, w, x) = b .entries e in declines 3 (inr (s, inr (w, inl (x, refl)))) says
-
+-- ---- the yes-or-no
 -- none of its tests applies, if the additions are within the limit and a canon, and a transversal exists
 judging : {n : ℕ} {t : List ℤ} (given : List ℕ) → Sound n t (length given ∷ []) → ((i : ℕ) → i < length given → nums given i ≤ handed)
     → (σ : ℕ → ℕ) × Transversal n (entry t n) σ → Canon n (entry t n) (nums given) → Clear (canon-tests n t given (length given ∷ []))

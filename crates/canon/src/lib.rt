@@ -1,5 +1,6 @@
 ghost use Rattle.canon.specs.Promises.{Solves, Lowers, Raises, Judges};
 use growth::grow;
+use handed::FirstTests;
 use handed::additions_stand;
 use handed::listed_marks;
 use handed::tested;
@@ -32,15 +33,9 @@ pub fn solve(
 ) -> Answer
     ensures { λ r. ⌜ Solves n (now (table .entry)) (now (adds .entry)) (now (stars .entry)) (now (heads .entry)) r (now (adds .exit)) (now (stars .exit)) (now (heads .exit)) ⌝ }
 {
-    let refusal = tested(n, table, n, adds.len(), stars.len(), heads.len());
-    if refusal == 1 {
-        return Answer::Refused(Refusal::Size);
-    }
-    if refusal == 2 {
-        return Answer::Refused(Refusal::Length);
-    }
-    if refusal == 3 {
-        return Answer::Refused(Refusal::Entry);
+    let first = tested(n, table, n, adds.len(), stars.len(), heads.len());
+    if let FirstTests::Refused(refusal) = first {
+        return Answer::Refused(refusal);
     }
     let grown = grow(n, table, [0u32; ROWS]);
     if !grown.found {
@@ -63,15 +58,9 @@ pub fn from_canon(
 ) -> Answer
     ensures { λ r. ⌜ Lowers n (now (table .entry)) (now (given .entry)) (now (adds .entry)) (now (stars .entry)) (now (heads .entry)) r (now (adds .exit)) (now (stars .exit)) (now (heads .exit)) ⌝ }
 {
-    let refusal = tested(n, table, given.len(), adds.len(), stars.len(), heads.len());
-    if refusal == 1 {
-        return Answer::Refused(Refusal::Size);
-    }
-    if refusal == 2 {
-        return Answer::Refused(Refusal::Length);
-    }
-    if refusal == 3 {
-        return Answer::Refused(Refusal::Entry);
+    let first = tested(n, table, given.len(), adds.len(), stars.len(), heads.len());
+    if let FirstTests::Refused(refusal) = first {
+        return Answer::Refused(refusal);
     }
     if !additions_stand(given) {
         return Answer::Refused(Refusal::Addition);
@@ -100,15 +89,9 @@ pub fn from_stars(
 ) -> Answer
     ensures { λ r. ⌜ Raises n (now (table .entry)) (now (given .entry)) (now (adds .entry)) (now (stars .entry)) (now (heads .entry)) r (now (adds .exit)) (now (stars .exit)) (now (heads .exit)) ⌝ }
 {
-    let refusal = tested(n, table, given.len(), adds.len(), stars.len(), heads.len());
-    if refusal == 1 {
-        return Answer::Refused(Refusal::Size);
-    }
-    if refusal == 2 {
-        return Answer::Refused(Refusal::Length);
-    }
-    if refusal == 3 {
-        return Answer::Refused(Refusal::Entry);
+    let first = tested(n, table, given.len(), adds.len(), stars.len(), heads.len());
+    if let FirstTests::Refused(refusal) = first {
+        return Answer::Refused(refusal);
     }
     let listed = listed_marks(n, given);
     if !listed.stands {
@@ -131,15 +114,9 @@ pub fn from_stars(
 pub fn is_simplest(n: usize, table: &[i16], given: &[u32]) -> Verdict
     ensures { λ r. ⌜ Judges n (now (table .entry)) (now (given .entry)) r ⌝ }
 {
-    let refusal = tested(n, table, given.len(), n, n, n);
-    if refusal == 1 {
-        return Verdict::Refused(Refusal::Size);
-    }
-    if refusal == 2 {
-        return Verdict::Refused(Refusal::Length);
-    }
-    if refusal == 3 {
-        return Verdict::Refused(Refusal::Entry);
+    let first = tested(n, table, given.len(), n, n, n);
+    if let FirstTests::Refused(refusal) = first {
+        return Verdict::Refused(refusal);
     }
     if !additions_stand(given) {
         return Verdict::Refused(Refusal::Addition);

@@ -1,5 +1,5 @@
 -- The first three refusals, one test after the other. Assumes nothing.
-use mathlib.Core.Path.{_≡_, refl}
+use mathlib.Core.Path.{_≡_, refl, sym}
 use mathlib.Core.Logic.{_⊎_, inl, inr}
 use mathlib.Core.List.{List, [], _∷_}
 use Prim.Native.Nat.{ℕ, _*_, _≤_, _<_}
@@ -9,8 +9,12 @@ use lib.ListN.{length}
 use Rattle.theory.specs.Limits.{rows, order}
 use Rattle.theory.specs.Table.{Entries}
 use Rattle.orders.specs.Places.{Square}
-use Rattle.handed.specs.Conditions.{OutOfSize, Fitting, WrongLength, WrongEntry}
+use Rattle.handed.specs.Conditions.{OutOfSize, Fitting, WrongLength, WrongEntry, basic}
+use Rattle.orders.specs.Refusals.{numberOf, valuesOf, Lowest}
+use Rattle.orders.specs.declared.Refusal.{Refusal}
+use Rattle.orders.specs.declared.Refusal.the-variants.{Size, Length, Entry}
 use Rattle.handed.specs.Handed.{Basic}
+use Rattle.handed.specs.declared.FirstTests.the-variants.{Passed, Refused}
 
 -- a size that passed both tests
 pub in-size : {n : ℕ} → (n ≡ 0 → ⊥) → n ≤ rows → OutOfSize n → ⊥
@@ -18,38 +22,28 @@ in-size ne le (inl e) = ne e
 in-size ne le (inr gt) = omega arith
 
 module _ {n : ℕ} {t : List ℤ} {ks : List ℕ} where
-  pub basic-size : OutOfSize n → Basic n t ks 1
-  basic-size s =
+  -- a refusal that is the lowest, and one that is none
+  refused-by : (q : Refusal) → Lowest (basic n t ks []) (numberOf q) → valuesOf q ≡ [] → Basic n t ks (Refused q)
+  refused-by q low bare =
       record {
-        size = λ e. s;
-        lengths = λ e. absurd (omega arith);
-        entries = λ e. absurd (omega arith);
-        clear = λ a b c. absurd (a refl);
+        passed = λ e. absurd (let z : _≡_ {A = ℕ} 0 1 = cc in omega arith);
+        refused = λ p e. let h : q ≡ p = cc in rw (sym h) (low, bare);
       }
 
-  pub basic-lengths : (n ≡ 0 → ⊥) → n ≤ rows → WrongLength n t ks → Basic n t ks 2
-  basic-lengths ne le w =
-      record {
-        size = λ e. absurd (omega arith);
-        lengths = λ e. (in-size ne le, w);
-        entries = λ e. absurd (omega arith);
-        clear = λ a b c. absurd (b refl);
-      }
+  pub basic-size : OutOfSize n → Basic n t ks (Refused Size)
+  basic-size s = refused-by Size (inl (s, refl)) refl
 
-  pub basic-entries : (n ≡ 0 → ⊥) → n ≤ rows → length t ≡ n * n → Fitting n ks → WrongEntry t → Basic n t ks 3
-  basic-entries ne le sq f w =
-      record {
-        size = λ e. absurd (omega arith);
-        lengths = λ e. absurd (omega arith);
-        entries = λ e. (in-size ne le, λ wrong. wrong (sq, f), w);
-        clear = λ a b c. absurd (c refl);
-      }
+  module _ (ne : n ≡ 0 → ⊥) (le : n ≤ rows) where
+    pub basic-lengths : WrongLength n t ks → Basic n t ks (Refused Length)
+    basic-lengths w = refused-by Length (inr (in-size ne le, inl (w, refl))) refl
 
-  pub basic-clear : (n ≡ 0 → ⊥) → n ≤ rows → length t ≡ n * n → Fitting n ks → Entries order t → Basic n t ks 0
-  basic-clear ne le sq f all =
-      record {
-        size = λ e. absurd (omega arith);
-        lengths = λ e. absurd (omega arith);
-        entries = λ e. absurd (omega arith);
-        clear = λ a b c. (in-size ne le, (record { small = le; square = sq }, f), all);
-      }
+    module _ (sq : length t ≡ n * n) (f : Fitting n ks) where
+      pub basic-entries : WrongEntry t → Basic n t ks (Refused Entry)
+      basic-entries w = refused-by Entry (inr (in-size ne le, inr ((λ wrong. wrong (sq, f)), inl (w, refl)))) refl
+
+      pub basic-sound : Entries order t → Basic n t ks Passed
+      basic-sound all =
+          record {
+            passed = λ e. record { in-size = in-size ne le; square = record { small = le; square = sq }; fitting = f; entries = all };
+            refused = λ q e. absurd (let z : _≡_ {A = ℕ} 0 1 = cc in omega arith);
+          }

@@ -11,39 +11,53 @@ ghost use Rattle.handed.specs.Handed.{Basic, ListedAs};
 use orders::ABSENT;
 use orders::HANDED;
 use orders::ROWS;
+use orders::Refusal;
 use orders::entries_stand;
 use orders::place;
 
-// The lowest of the refusals 1, 2 and 3 that applies, or else 0: the size, the table's length and four lengths that are to be n, the
-// entries.
-pub fn tested(n: usize, table: &[i16], given: usize, adds: usize, stars: usize, heads: usize) -> u32
+// What the tests that every call on a table begins with tell: all stands, or the refusal.
+pub enum FirstTests {
+    Passed,
+    Refused(Refusal),
+}
+
+// The lowest of the refusals 1, 2 and 3 that applies, if one does: the size, the table's length and four lengths that are to be n, the
+// entries. Rules out a later refusal where an earlier one applies, a length passed over, and a refusal where none applies.
+pub fn tested(
+    n: usize,
+    table: &[i16],
+    given: usize,
+    adds: usize,
+    stars: usize,
+    heads: usize,
+) -> FirstTests
     ensures { λ r. ⌜ Basic n (now (table .entry)) (given ∷ adds ∷ stars ∷ heads ∷ []) r ⌝ }
 {
     if n == 0 {
-        return 1;
+        return FirstTests::Refused(Refusal::Size);
     }
     if ROWS < n {
-        return 1;
+        return FirstTests::Refused(Refusal::Size);
     }
     if table.len() != n * n {
-        return 2;
+        return FirstTests::Refused(Refusal::Length);
     }
     if given != n {
-        return 2;
+        return FirstTests::Refused(Refusal::Length);
     }
     if adds != n {
-        return 2;
+        return FirstTests::Refused(Refusal::Length);
     }
     if stars != n {
-        return 2;
+        return FirstTests::Refused(Refusal::Length);
     }
     if heads != n {
-        return 2;
+        return FirstTests::Refused(Refusal::Length);
     }
     if !entries_stand(table) {
-        return 3;
+        return FirstTests::Refused(Refusal::Entry);
     }
-    0
+    FirstTests::Passed
 }
 
 // Are all additions handed in within the limit?

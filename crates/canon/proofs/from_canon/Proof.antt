@@ -10,7 +10,8 @@ use mir.Syntax.{w32}
 use mir.Facts.{toZ-ofZ}
 use Rattle.orders.specs.Refusals.{gives}
 use Rattle.routes.specs.Routes.{GivenAdditions, Least}
-use Rattle.canon.proofs.Refusing.{Sound, sound, refuse-size, refuse-lengths, refuse-entries, refuse-later, lent, given-additions}
+use Rattle.handed.specs.Handed.{Sound}
+use Rattle.canon.proofs.Refusing.{refuse-first, refuse-later, lent, given-additions}
 use Rattle.canon.proofs.Answering.{routed}
 use Rattle.canon.proofs.from_canon.Statement.{statement}
 use Rattle.canon.proofs.from_canon.Tie as tie
@@ -18,50 +19,50 @@ use Rattle.canon.proofs.from_canon.Tie as tie
 tested-requires : tie.Need-tested-requires
 tested-requires c κs = search needs
 
+enum-known-first : tie.Need-enum-known-first
+enum-known-first c = search needs
+
 returns : tie.Need-returns
-returns c = refuse-size ((c .before .tested .ensures)) (c .if1 .taken) refl
+returns c = refuse-first (c .before .before .before .tested .ensures) _ (c .before .first .given .1)
 
-returns-2 : tie.Need-returns-2
-returns-2 c = refuse-lengths ((c .before .before .tested .ensures)) (c .if2 .taken) refl
-
-returns-3 : tie.Need-returns-3
-returns-3 c = refuse-entries ((c .before .before .before .tested .ensures)) (c .if3 .taken) refl
+enum-told : tie.Need-enum-told
+enum-told c = search needs
 
 -- past the first three tests
-passed : (c : tie.Else3) → Sound (c .before .before .before .before .before .before .before .args .n) (now (c .before .before .before .before .before .before .before .args .table)) (length (now (c .before .before .before .before .before .before .before .args .given)) ∷ length (now (c .before .before .before .before .before .before .before .args .adds)) ∷ length (now (c .before .before .before .before .before .before .before .args .stars)) ∷ length (now (c .before .before .before .before .before .before .before .args .heads)) ∷ [])
-passed c = sound ((c .before .before .before .tested .ensures)) (c .before .before .if1 .left) (c .before .if2 .left) (c .if3 .left)
+passed : (c : tie.After-enum-told) → Sound (c .before .before .before .before .before .before .args .n) (now (c .before .before .before .before .before .before .args .table)) (length (now (c .before .before .before .before .before .before .args .given)) ∷ length (now (c .before .before .before .before .before .before .args .adds)) ∷ length (now (c .before .before .before .before .before .before .args .stars)) ∷ length (now (c .before .before .before .before .before .before .args .heads)) ∷ [])
+passed c = (c .before .before .tested .ensures) .passed (c .enum-told .given .1)
 
 additions-stand-requires : tie.Need-additions-stand-requires
 additions-stand-requires c κs = search needs
 
-returns-4 : tie.Need-returns-4
-returns-4 c = refuse-later (passed (c .before .before)) 4 (inl (c .before .additions-stand .ensures .fails (not-true _ (c .if4 .taken)), refl)) refl
+returns-2 : tie.Need-returns-2
+returns-2 c = refuse-later (passed (c .before .before)) 4 (inl (c .before .additions-stand .ensures .fails (not-true _ (c .if1 .taken)), refl)) refl
 
 from-additions-requires : tie.Need-from-additions-requires
-from-additions-requires c κs = given-additions (passed (c .before .before)) (c .before .additions-stand .ensures .holds (not-false _ (c .if4 .left)))
+from-additions-requires c κs = given-additions (passed (c .before .before)) (c .before .additions-stand .ensures .holds (not-false _ (c .if1 .left)))
 
-returns-5 : tie.Need-returns-5
-returns-5 c =
+returns-3 : tie.Need-returns-3
+returns-3 c =
     let e = c .before .before .before in
     refuse-later (passed (e .before .before)) 6
-    (inr ((λ wrong. wrong (e .before .additions-stand .ensures .holds (not-false _ (e .if4 .left)))), inl (c .before .before .from-additions .ensures .none (not-true _ (c .if5 .taken)), refl)))
+    (inr ((λ wrong. wrong (e .before .additions-stand .ensures .holds (not-false _ (e .if1 .left)))), inl (c .before .before .from-additions .ensures .none (not-true _ (c .if2 .taken)), refl)))
     refl
 
-returns-6 : tie.Need-returns-6
-returns-6 c =
+returns-4 : tie.Need-returns-4
+returns-4 c =
     let d = c .before .before in
     let e = d .before .before .before in
     let r = d .before .before .from-additions .ensures in
-    let found = not-false _ (d .if5 .left) in
+    let found = not-false _ (d .if2 .left) in
     refuse-later (passed (e .before .before)) 7
-    (inr ((λ wrong. wrong (e .before .additions-stand .ensures .holds (not-false _ (e .if4 .left)))), inr ((λ none. none _ (r .exists found .1)), inl (r .no-canon found (not-true _ (c .if6 .taken)), refl))))
+    (inr ((λ wrong. wrong (e .before .additions-stand .ensures .holds (not-false _ (e .if1 .left)))), inr ((λ none. none _ (r .exists found .1)), inl (r .no-canon found (not-true _ (c .if3 .taken)), refl))))
     refl
 
 delivered-requires : tie.Need-delivered-requires
 delivered-requires c κs =
     let h = c .before .before .before .before .before .before in
     let d = h .before .before in
-    let l = d .before .before .from-additions .ensures .least (not-false _ (h .if6 .left)) in
+    let l = d .before .before .from-additions .ensures .least (not-false _ (h .if3 .left)) in
     let s = passed (d .before .before .before .before .before) in
     (record { square = s .square; roomy = l .roomy; of-maxima = l .of-maxima; marks = l .marks }, lent (s .fitting .1))
 
@@ -74,16 +75,16 @@ same-length-2 c = search needs
 same-length-3 : tie.Need-same-length-3
 same-length-3 c = search needs
 
-returns-7 : tie.Need-returns-7
-returns-7 c =
+returns-5 : tie.Need-returns-5
+returns-5 c =
     let p = c .before .before .before .before .before in
     let h = p .before .before .before .before .before .before .before in
     let d = h .before .before in
     let e = d .before .before .before in
     let r = d .before .before .from-additions .ensures in
-    let canon = not-false _ (h .if6 .left) in
+    let canon = not-false _ (h .if3 .left) in
     routed (passed (e .before .before))
-    ((λ wrong. wrong (e .before .additions-stand .ensures .holds (not-false _ (e .if4 .left)))), ((λ none. none _ (r .exists (not-false _ (d .if5 .left)) .1)), ((λ no-one. no-one (r .is-canon canon)), tt)))
+    ((λ wrong. wrong (e .before .additions-stand .ensures .holds (not-false _ (e .if1 .left)))), ((λ none. none _ (r .exists (not-false _ (d .if2 .left)) .1)), ((λ no-one. no-one (r .is-canon canon)), tt)))
     (ap gives (toZ-ofZ {w = w32} {z = p .delivered .result} (sfits-of (p .delivered .ok)))) (r .least canon .simplest) (p .delivered .ensures)
 
 pub from-canon-spec : {M : Type 1} → statement M
@@ -91,16 +92,16 @@ from-canon-spec =
     tie.close
     (tie.spec
     tested-requires
+    enum-known-first
     returns
-    returns-2
-    returns-3
+    enum-told
     additions-stand-requires
-    returns-4
+    returns-2
     from-additions-requires
-    returns-5
-    returns-6
+    returns-3
+    returns-4
     delivered-requires
     same-length
     same-length-2
     same-length-3
-    returns-7)
+    returns-5)

@@ -11,7 +11,8 @@ use mir.Facts.{toZ-ofZ}
 use Rattle.theory.proofs.Unique.{misplaced-same}
 use Rattle.orders.specs.Refusals.{gives}
 use Rattle.handed.specs.Handed.{ListedAs}
-use Rattle.canon.proofs.Refusing.{Sound, sound, refuse-size, refuse-lengths, refuse-entries, refuse-later, lent, given-columns}
+use Rattle.handed.specs.Handed.{Sound}
+use Rattle.canon.proofs.Refusing.{refuse-first, refuse-later, lent, given-columns}
 use Rattle.canon.proofs.Answering.{routed}
 use Rattle.canon.proofs.from_stars.Statement.{statement}
 use Rattle.canon.proofs.from_stars.Tie as tie
@@ -19,47 +20,47 @@ use Rattle.canon.proofs.from_stars.Tie as tie
 tested-requires : tie.Need-tested-requires
 tested-requires c κs = search needs
 
+enum-known-first : tie.Need-enum-known-first
+enum-known-first c = search needs
+
 returns : tie.Need-returns
-returns c = refuse-size ((c .before .tested .ensures)) (c .if1 .taken) refl
+returns c = refuse-first (c .before .before .before .tested .ensures) _ (c .before .first .given .1)
 
-returns-2 : tie.Need-returns-2
-returns-2 c = refuse-lengths ((c .before .before .tested .ensures)) (c .if2 .taken) refl
-
-returns-3 : tie.Need-returns-3
-returns-3 c = refuse-entries ((c .before .before .before .tested .ensures)) (c .if3 .taken) refl
+enum-told : tie.Need-enum-told
+enum-told c = search needs
 
 -- past the first three tests
-passed : (c : tie.Else3) → Sound (c .before .before .before .before .before .before .before .args .n) (now (c .before .before .before .before .before .before .before .args .table)) (length (now (c .before .before .before .before .before .before .before .args .given)) ∷ length (now (c .before .before .before .before .before .before .before .args .adds)) ∷ length (now (c .before .before .before .before .before .before .before .args .stars)) ∷ length (now (c .before .before .before .before .before .before .before .args .heads)) ∷ [])
-passed c = sound ((c .before .before .before .tested .ensures)) (c .before .before .if1 .left) (c .before .if2 .left) (c .if3 .left)
+passed : (c : tie.After-enum-told) → Sound (c .before .before .before .before .before .before .args .n) (now (c .before .before .before .before .before .before .args .table)) (length (now (c .before .before .before .before .before .before .args .given)) ∷ length (now (c .before .before .before .before .before .before .args .adds)) ∷ length (now (c .before .before .before .before .before .before .args .stars)) ∷ length (now (c .before .before .before .before .before .before .args .heads)) ∷ [])
+passed c = (c .before .before .tested .ensures) .passed (c .enum-told .given .1)
 
 listed-marks-requires : tie.Need-listed-marks-requires
 listed-marks-requires c κs = let s = passed c in (s .square .small, s .fitting .0)
 
-returns-4 : tie.Need-returns-4
-returns-4 c = refuse-later (passed (c .before .before .before)) 5 (inl (c .before .before .listed-marks .ensures .wrong (not-true _ (c .if4 .taken)), refl)) refl
+returns-2 : tie.Need-returns-2
+returns-2 c = refuse-later (passed (c .before .before .before)) 5 (inl (c .before .before .listed-marks .ensures .wrong (not-true _ (c .if1 .taken)), refl)) refl
 
 from-columns-requires : tie.Need-from-columns-requires
 from-columns-requires c κs =
     let e = c .before .before .before in
-    given-columns (passed (e .before .before .before)) (e .before .before .listed-marks .ensures .marks (not-false _ (e .if4 .left)))
+    given-columns (passed (e .before .before .before)) (e .before .before .listed-marks .ensures .marks (not-false _ (e .if1 .left)))
 
-returns-5 : tie.Need-returns-5
-returns-5 c =
+returns-3 : tie.Need-returns-3
+returns-3 c =
     let e = c .before .before .before .before .before .before in
     let l = e .before .before .listed-marks .ensures in
     refuse-later (passed (e .before .before .before)) 6
-    (inr ((λ wrong. wrong (l .star-list (not-false _ (e .if4 .left)))), inl (c .before .before .from-columns .ensures .none (not-true _ (c .if5 .taken)), refl))) refl
+    (inr ((λ wrong. wrong (l .star-list (not-false _ (e .if1 .left)))), inl (c .before .before .from-columns .ensures .none (not-true _ (c .if2 .taken)), refl))) refl
 
-returns-6 : tie.Need-returns-6
-returns-6 c =
+returns-4 : tie.Need-returns-4
+returns-4 c =
     let d = c .before .before in
     let e = d .before .before .before .before .before .before in
     let l = e .before .before .listed-marks .ensures in
-    let stands = not-false _ (e .if4 .left) in
-    let found = not-false _ (d .if5 .left) in
+    let stands = not-false _ (e .if1 .left) in
+    let found = not-false _ (d .if2 .left) in
     let r = d .before .before .from-columns .ensures in
     refuse-later (passed (e .before .before .before)) 8
-    (inr ((λ wrong. wrong (l .star-list stands)), inr ((λ none. none _ (r .exists found .1)), inl (misplaced-same _ _ (l .same stands) (r .misplaced found (not-true _ (c .if6 .taken))), refl))))
+    (inr ((λ wrong. wrong (l .star-list stands)), inr ((λ none. none _ (r .exists found .1)), inl (misplaced-same _ _ (l .same stands) (r .misplaced found (not-true _ (c .if3 .taken))), refl))))
     refl
 
 delivered-requires : tie.Need-delivered-requires
@@ -69,9 +70,9 @@ delivered-requires c κs =
     let e = d .before .before .before .before .before .before in
     let l = e .before .before .listed-marks .ensures in
     let r = d .before .before .from-columns .ensures in
-    let greatest = not-false _ (h .if6 .left) in
+    let greatest = not-false _ (h .if3 .left) in
     let s = passed (e .before .before .before) in
-    (record { square = s .square; roomy = r .roomy greatest; of-maxima = r .of-maxima greatest; marks = l .marks (not-false _ (e .if4 .left)) }, lent (s .fitting .1))
+    (record { square = s .square; roomy = r .roomy greatest; of-maxima = r .of-maxima greatest; marks = l .marks (not-false _ (e .if1 .left)) }, lent (s .fitting .1))
 
 same-length : tie.Need-same-length
 same-length c = search needs
@@ -82,16 +83,16 @@ same-length-2 c = search needs
 same-length-3 : tie.Need-same-length-3
 same-length-3 c = search needs
 
-returns-7 : tie.Need-returns-7
-returns-7 c =
+returns-5 : tie.Need-returns-5
+returns-5 c =
     let p = c .before .before .before .before .before in
     let h = p .before .before .before .before .before in
     let d = h .before .before in
     let e = d .before .before .before .before .before .before in
     let l = e .before .before .listed-marks .ensures in
     let r = d .before .before .from-columns .ensures in
-    let stands = not-false _ (e .if4 .left) in
-    let greatest = not-false _ (h .if6 .left) in
+    let stands = not-false _ (e .if1 .left) in
+    let greatest = not-false _ (h .if3 .left) in
     routed (passed (e .before .before .before))
     ((λ wrong. wrong (l .star-list stands)), ((λ none. none _ (r .of-maxima greatest .transversal)), ((λ m. r .placed greatest (misplaced-same _ _ (λ i hi. sym (l .same stands i hi)) m)), tt)))
     (ap gives (toZ-ofZ {w = w32} {z = p .delivered .result} (sfits-of (p .delivered .ok)))) (r .simplest greatest) (p .delivered .ensures)
@@ -101,16 +102,16 @@ from-stars-spec =
     tie.close
     (tie.spec
     tested-requires
+    enum-known-first
     returns
-    returns-2
-    returns-3
+    enum-told
     listed-marks-requires
-    returns-4
+    returns-2
     from-columns-requires
-    returns-5
-    returns-6
+    returns-3
+    returns-4
     delivered-requires
     same-length
     same-length-2
     same-length-3
-    returns-7)
+    returns-5)

@@ -6,7 +6,7 @@ use native.Mathlib.Omega.{arith}
 use borrow.Author.Needs.{needs}
 use borrow.Author.Tests.{not-true, not-false}
 use Rattle.orders.proofs.Places.{square-small}
-use Rattle.handed.proofs.Basics.{basic-size, basic-lengths, basic-entries, basic-clear}
+use Rattle.handed.proofs.Basics.{basic-size, basic-lengths, basic-entries, basic-sound}
 use Rattle.handed.proofs.tested.Statement.{statement}
 use Rattle.handed.proofs.tested.Tie as tie
 
@@ -54,7 +54,7 @@ returns-8 c =
 returns-9 : tie.Need-returns-9
 returns-9 c =
     let b = c .before .before in
-    basic-clear (b .before .before .before .before .before .before .if1 .left) (omega (arith, b .before .before .before .before .before .if2 .left))
+    basic-sound (b .before .before .before .before .before .before .if1 .left) (omega (arith, b .before .before .before .before .before .if2 .left))
     (b .before .before .before .before .if3 .left) (b .before .before .before .if4 .left, (b .before .before .if5 .left, (b .before .if6 .left, (b .if7 .left, tt))))
     (c .before .entries-stand .ensures .holds (not-false _ (c .if8 .left)))
 

@@ -411,15 +411,13 @@ module _ {s : List ℕ} {r : Walked} {t : List ℤ} {b c : List ℕ} (told : Wal
       ∙ length-append (st .entries) (replicate (1024 - length (st .entries)) absent)
       ∙ omega (arith, h .few, length-replicate {A = ℤ} (1024 - length (st .entries)) absent)
 
-  pub rows-whole : length b ≡ 256
-  rows-whole =
+  pub labels-whole : (length b ≡ 256) × (length c ≡ 256)
+  labels-whole =
       let e = told .ended z .1 in
-      holding-length b _ (e .held .rows-held) (labels-short _ (e .held .rows-stand)) (omega (arith, e .rows-are, e .rows-few))
-
-  pub cols-whole : length c ≡ 256
-  cols-whole =
-      let e = told .ended z .1 in
-      holding-length c _ (e .held .cols-held) (labels-short _ (e .held .cols-stand)) (omega (arith, e .rows-are, e .rows-few, e .cols-are))
+      let h = e .held in (
+        holding-length b _ (h .rows-held) (labels-short _ (h .rows-stand)) (omega (arith, e .rows-are, e .rows-few)),
+        holding-length c _ (h .cols-held) (labels-short _ (h .cols-stand)) (omega (arith, e .rows-are, e .rows-few, e .cols-are)),
+      )
 
 pub next-fits : (s : List ℕ) (x : ℕ) → x < length s → Fits w64 (length s + 1) → Fits w64 (x + 1)
 next-fits s x h f = omega arith

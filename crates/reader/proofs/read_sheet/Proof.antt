@@ -3,7 +3,7 @@ use borrow.Author.Needs.{needs}
 use native.Mathlib.Omega.{arith}
 use mathlib.Core.Path.{refl}
 use Rattle.reader.specs.Promise.{lent, refused, wrong-length, too-long, wrong-line}
-use Rattle.reader.proofs.WalkLaws.{holds-nothing, rows-few, places-few, table-whole, rows-whole, cols-whole}
+use Rattle.reader.proofs.WalkLaws.{holds-nothing, rows-few, places-few, table-whole, labels-whole}
 use Rattle.reader.proofs.PromiseLaws.{wanted, read-surplus, read-good}
 use Rattle.reader.proofs.read_sheet.Statement.{statement}
 use Rattle.reader.proofs.read_sheet.Tie as tie
@@ -82,7 +82,8 @@ copy-bytes-requires c κs =
     let if5′ = c .before .before .before .before .before .before .before .if5 in
     let if2′ = c .before .before .before .before .before .before .before .before .before .before .before .before .before .before .if2 in
     let few = rows-few (walk′ .ensures) (if5′ .left) in
-    (omega (arith, few), omega (arith, few, if2′ .left), rows-whole (walk′ .ensures) (if5′ .left))
+    let whole = labels-whole (walk′ .ensures) (if5′ .left) in
+    (omega (arith, few), omega (arith, few, if2′ .left), omega (arith, whole .0, whole .1))
 
 mul-copy-bytes-2 : tie.Need-mul-copy-bytes-2
 mul-copy-bytes-2 c =
@@ -96,7 +97,8 @@ copy-bytes-requires-2 c κs =
     let if5′ = c .before .before .before .before .before .before .before .before .before .before .before .before .if5 in
     let if3′ = c .before .before .before .before .before .before .before .before .before .before .before .before .before .before .before .before .before .before .if3 in
     let few = rows-few (walk′ .ensures) (if5′ .left) in
-    (omega (arith, few), omega (arith, few, if3′ .left), cols-whole (walk′ .ensures) (if5′ .left))
+    let whole = labels-whole (walk′ .ensures) (if5′ .left) in
+    (omega (arith, few), omega (arith, few, if3′ .left), omega (arith, whole .0, whole .1))
 
 same-length : tie.Need-same-length
 same-length c = search needs

@@ -1,34 +1,25 @@
 -- What is kept of the lines so far, and one line more. Assumes nothing.
-use mathlib.Core.Path.{_≡_, refl, sym, ap, subst, subst⁻¹, _∙_}
-use mathlib.Core.Logic.{_≢_}
-use mathlib.Core.Bool.{Bool, true, false}
+use mathlib.Core.Path.{_≡_, refl, sym, ap, subst, _∙_}
+use mathlib.Core.Bool.{Bool, true, false, not}
 use mathlib.Core.List.{List, [], _∷_, _++_, append-assoc, append-nil}
 use Prim.Native.Nat.{ℕ, zero, suc, _+_, _-_, _*_, _<_, _≤_}
 use native.Mathlib.Omega.{arith}
-use native.Mathlib.Nat.{mul-le-mul, mul-le-mul-right}
-use native.Mathlib.Numerals.{add-one}
-use lib.IntN.{ℤ, pos}
-use lib.ListN.{length, getD, take, drop, set, replicate, length-append, length-drop, length-replicate, replicate-append-replicate}
-use lib.Seq.{take-at, drop-at, take-length, take-append-add, drop-append-add, drop-cons, set-split, set-at, take-suc, length-take-le, paste, append-snoc}
-use mir.Syntax.{w16}
-use mir.Val.{toZ, ofZ}
+use native.Mathlib.Nat.{mul-le-mul}
+use lib.IntN.{ℤ}
+use lib.ListN.{length, getD, take, drop, set, replicate, length-append, length-replicate, replicate-append-replicate}
+use lib.Seq.{take-at, take-length, take-append-add, drop-append-add, set-split, paste, append-snoc}
 use denote.Enum.Declared.{tagOf}
 use Rattle.orders.specs.Tested.{Tells}
 use Rattle.theory.specs.Limits.{rows, order}
-use Rattle.theory.specs.Table.{absent, Order}
-use Rattle.sheet.specs.Text.{over}
+use Rattle.theory.specs.Table.{absent}
 use Rattle.sheet.specs.Labels.{width, Form, New, Labels, filled, slots, slot, Repeated}
-use Rattle.sheet.specs.Sheet.{orderText}
 use Rattle.sheet.specs.Reading.{State, After, heading, row-label, col-label, order-line, withRow, withCol, withOrder}
 use Rattle.sheet.proofs.Bytes.{clash}
-use Rattle.sheet.proofs.Slots.{Short, labels-short, slots-length, slots-append, slot-at, filled-once, labels-more, length-more, filled-length}
-use Rattle.sheet.proofs.Lines.{order-once}
+use Rattle.sheet.proofs.Slots.{Short, labels-short, slots-length, slots-append, slot-at, filled-once, labels-more, length-more}
 use Rattle.sheet.proofs.Orders.{cell}
-use Rattle.reader.specs.declared.Slots.{Slots}
-use Rattle.reader.specs.declared.Kept.{Kept}
 use Rattle.reader.specs.declared.Place.{Place}
 use Rattle.reader.specs.declared.Place.the-variants.{At, Nothing as NoPlace}
-use Rattle.reader.specs.Parts.{OrderIs, PlaceOf, Holding, LabelKept, Holds, Due, LineKept}
+use Rattle.reader.specs.Parts.{OrderIs, Holding, LabelKept, Store, store, Holds, Due, LineKept}
 use Rattle.reader.proofs.Place.{the-type as place-type}
 
 -- parts of a run of one value
@@ -118,11 +109,30 @@ no e = clash {t = true} refl e
 no′ : {X : Type 0} → false ≡ true → X
 no′ e = clash {t = false} e refl
 
-pub kept-label : (ls : List (List ℕ)) (l b : List ℕ) → Form l → New ls l → Holding b (ls ++ (l ∷ [])) → LabelKept ls l (record { fits = true; labels = b })
-kept-label ls l b f n h = record { fit = λ e. (f, n, h); unfit = λ e. no e }
-
-pub unkept-label : (ls : List (List ℕ)) (l b : List ℕ) → (Form l → New ls l → ⊥) → LabelKept ls l (record { fits = false; labels = b })
+pub unkept-label : (ls : List (List ℕ)) (l b : List ℕ) → (Form l → New ls l → ⊥) → LabelKept ls l false b
 unkept-label ls l b n = record { fit = λ e. no′ e; unfit = λ e. n }
+
+-- a label put into the next place is kept unless it stands in an earlier place too
+module _ (b : List ℕ) (ls : List (List ℕ)) (l : List ℕ) (h : Holding b ls) (p : Labels ls) (f : Form l) (few : length ls < rows) where
+  abbrev put : List ℕ
+  put = paste b (width * length ls) l (length l)
+
+  put-holds : Holding put (ls ++ (l ∷ []))
+  put-holds = holding-more b ls l h (labels-short ls p) (f .few) few
+
+  compared : (again : Bool) → Tells again (Repeated put (length ls)) → LabelKept ls l (not again) put
+  compared true t = unkept-label ls l put (λ g n. repeated-old put ls l put-holds p f few (t .holds refl) n)
+  compared false t =
+      record {
+        fit = λ e. (f, unrepeated-new put ls l put-holds p f few (t .fails refl), put-holds);
+        unfit = λ e. no e;
+      }
+
+  pub compared-label : (k : ℕ) (again : Bool) → length ls ≡ k → Tells again (Repeated (paste b (width * k) l (length l)) k)
+      → LabelKept ls l (not again) (paste b (width * k) l (length l))
+  compared-label k again e =
+      subst (λ x. Tells again (Repeated (paste b (width * x) l (length l)) x) → LabelKept ls l (not again) (paste b (width * x) l (length l))) e
+      (compared again)
 
 -- an order put into the table
 pub table-more : (e : List ℤ) (p : ℕ) (v : ℤ) (n : ℕ) → length e ≤ p → p < n
@@ -166,7 +176,7 @@ is-no-place NoPlace h = refl
 is-no-place (At i j v) h = absurd (omega arith)
 
 -- the ways an order line is kept or not
-module _ (kept : Kept) (n m : ℕ) (l : List ℕ) (st : State) (h : Holds kept st) (d : Due 2 n 0 m st) where
+module _ (kept : Store) (n m : ℕ) (l : List ℕ) (st : State) (h : Holds kept st) (d : Due 2 n 0 m st) where
   -- only an order line can stand in the section of orders
   pub orders-only : (st′ : State) → After st l st′ → (i : ℕ) × (j : ℕ) × (v : ℤ) × OrderIs n l i j v × (length (st .entries) ≤ i * n + j)
   orders-only st′ (heading c z g e) = absurd (omega (arith, d .left-is))
@@ -176,16 +186,15 @@ module _ (kept : Kept) (n m : ℕ) (l : List ℕ) (st : State) (h : Holds kept s
       let w : length (st .row-labels) ≡ n = d .in-orders refl in
       (i, j, v, record { row = omega arith; col = omega arith; order-stands = o; is = u }, rw w at r)
 
-  pub unkept-order : (b : Kept) → b .fits ≡ false → ((i j : ℕ) (v : ℤ) → OrderIs n l i j v → length (st .entries) ≤ i * n + j → ⊥) → LineKept st l b
-  unkept-order b f g =
+  pub unkept-order : (kept′ : Store) → ((i j : ℕ) (v : ℤ) → OrderIs n l i j v → length (st .entries) ≤ i * n + j → ⊥) → LineKept st l false kept′
+  unkept-order kept′ g =
       record {
-        fit = λ e. clash e f;
+        fit = λ e. no′ e;
         unfit = λ e st′ a. let o = orders-only st′ a in g (o .0) (o .1) (o .2) (o .3) (o .4);
       }
 
   pub kept-order : (i j : ℕ) (v : ℤ) → n ≤ rows → OrderIs n l i j v → length (st .entries) ≤ i * n + j
-      → LineKept st l
-      (record { fits = true; rows = kept .rows; cols = kept .cols; table = set (kept .table) (i * n + j) v; next = i * n + j + 1 })
+      → LineKept st l true (store (set (kept .table) (i * n + j) v) (kept .row-bytes) (kept .col-bytes) (i * n + j + 1))
   kept-order i j v few o r =
       let w : length (st .row-labels) ≡ n = d .in-orders refl in
       let p = i * n + j in
@@ -209,10 +218,10 @@ module _ (kept : Kept) (n m : ℕ) (l : List ℕ) (st : State) (h : Holds kept s
       }
 
 -- the ways a label is kept or not
-module _ (kept : Kept) (n k m : ℕ) (l : List ℕ) (st : State) (h : Holds kept st) where
-  pub kept-row : Due 0 n k m st → (s : Slots) → LabelKept (st .row-labels) l s
-      → LineKept st l (record { fits = s .fits; rows = s .labels; cols = kept .cols; table = kept .table; next = kept .next })
-  kept-row d s t =
+module _ (kept : Store) (n k m : ℕ) (l : List ℕ) (st : State) (h : Holds kept st) where
+  pub kept-row : Due 0 n k m st → (fits : Bool) (b : List ℕ) → LabelKept (st .row-labels) l fits b
+      → LineKept st l fits (store (kept .table) b (kept .col-bytes) (kept .next))
+  kept-row d fits b t =
       record {
         fit = λ e. let f = t .fit e in (
           withRow st m l,
@@ -230,15 +239,15 @@ module _ (kept : Kept) (n k m : ℕ) (l : List ℕ) (st : State) (h : Holds kept
         unfit = λ e st′ a. go e a;
       }
     where
-      go : {st′ : State} → s .fits ≡ false → After st l st′ → ⊥
+      go : {st′ : State} → fits ≡ false → After st l st′ → ⊥
       go e (heading c z g f) = omega (arith, d .left-is)
       go e (row-label m′ z y f g x) = t .unfit e f g
       go e (col-label m′ z y f g x) = omega (arith, d .section-is)
       go e (order-line m′ i j v z y p q o r u x) = omega (arith, d .section-is)
 
-  pub kept-col : Due 1 n k m st → (s : Slots) → LabelKept (st .col-labels) l s
-      → LineKept st l (record { fits = s .fits; rows = kept .rows; cols = s .labels; table = kept .table; next = kept .next })
-  kept-col d s t =
+  pub kept-col : Due 1 n k m st → (fits : Bool) (b : List ℕ) → LabelKept (st .col-labels) l fits b
+      → LineKept st l fits (store (kept .table) (kept .row-bytes) b (kept .next))
+  kept-col d fits b t =
       record {
         fit = λ e. let f = t .fit e in (
           withCol st m l,
@@ -256,7 +265,7 @@ module _ (kept : Kept) (n k m : ℕ) (l : List ℕ) (st : State) (h : Holds kept
         unfit = λ e st′ a. go e a;
       }
     where
-      go : {st′ : State} → s .fits ≡ false → After st l st′ → ⊥
+      go : {st′ : State} → fits ≡ false → After st l st′ → ⊥
       go e (heading c z g f) = omega (arith, d .left-is)
       go e (row-label m′ z y f g x) = omega (arith, d .section-is)
       go e (col-label m′ z y f g x) = t .unfit e f g

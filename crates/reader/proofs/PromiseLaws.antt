@@ -4,7 +4,6 @@ use mathlib.Core.Logic.{_≢_}
 use mathlib.Core.List.{List, [], _∷_, _++_, append-assoc, append-nil}
 use Prim.Native.Nat.{ℕ, zero, suc, _+_, _-_, _*_, _<_, _≤_}
 use native.Mathlib.Omega.{arith}
-use native.Mathlib.Nat.{mul-le-mul}
 use lib.IntN.{ℤ}
 use lib.ListN.{length, take, drop, replicate, length-append, length-drop, length-replicate, drop-of-length-le}
 use lib.Seq.{take-at, take-append-add}
@@ -21,7 +20,7 @@ use Rattle.reader.specs.declared.Walked.{Walked}
 use Rattle.reader.specs.Parts.{Holding, Holds, Ends, WalkTells}
 use Rattle.reader.specs.Promise.{Lent, lent, Wanted, Refuses, wrong-length, too-long, wrong-line, written, ReadPromise, refused, read}
 use Rattle.reader.proofs.KeepLaws.{take-replicate}
-use Rattle.reader.proofs.WalkLaws.{surplus}
+use Rattle.reader.proofs.WalkLaws.{surplus, places-few}
 
 -- the three lengths
 pub wanted : (t : List ℤ) (r c : List ℕ) → length t ≡ 1024 → length r ≡ 256 → length c ≡ 256 → Wanted (lent t r c)
@@ -45,7 +44,8 @@ labels-front b ls h p =
 copied : {A : Type 0} (x from room : List A) (k : ℕ) → length x ≡ k → take k from ≡ x → take k from ++ drop k room ≡ over x room
 copied x from room k e f = ap (λ y. y ++ drop k room) f ∙ ap (λ i. x ++ drop i room) (sym e)
 
-module _ (s : List ℕ) (m : Lent) (w : Wanted m) (few : length s ≤ sheet) (r : Walked) (t : WalkTells s r) (z : r .wrong ≡ 0) where
+module _ (s : List ℕ) (m : Lent) (w : Wanted m) (few : length s ≤ sheet) (r : Walked) (kept-table : List ℤ) (kept-rows kept-cols : List ℕ)
+    (t : WalkTells s r kept-table kept-rows kept-cols) (z : r .wrong ≡ 0) where
   -- bytes after the last line
   pub read-surplus : r .at < length s → ReadPromise s m m (refuses 10 (r .line ∷ []))
   read-surplus h =
@@ -56,17 +56,11 @@ module _ (s : List ℕ) (m : Lent) (w : Wanted m) (few : length s ≤ sheet) (r 
       (e .whole (wrong (r .line)) (surplus st (r .line) (drop (r .at) s) (e .final) (omega (arith, length-drop (r .at) s)))) refl)
       refl
 
-  pub rows-few : r .n ≤ 32
-  rows-few = t .ended z .1 .rows-few
-
-  pub places-few : r .n * r .n ≤ 1024
-  places-few = mul-le-mul {n₁ = r .n} {m₁ = r .n} {n₂ = 32} {m₂ = 32} rows-few rows-few
-
   -- a good sheet, whose table and labels were copied out
   pub read-good : length s ≤ r .at → (t′ : List ℤ) (r′ c′ : List ℕ)
-      → t′ ≡ take (r .n * r .n) (r .kept .table) ++ drop (r .n * r .n) (m .table)
-      → r′ ≡ take (8 * r .n) (r .kept .rows) ++ drop (8 * r .n) (m .row-labels)
-      → c′ ≡ take (8 * r .n) (r .kept .cols) ++ drop (8 * r .n) (m .col-labels) → ReadPromise s m (lent t′ r′ c′) (gives (r .n))
+      → t′ ≡ take (r .n * r .n) kept-table ++ drop (r .n * r .n) (m .table)
+      → r′ ≡ take (8 * r .n) kept-rows ++ drop (8 * r .n) (m .row-labels)
+      → c′ ≡ take (8 * r .n) kept-cols ++ drop (8 * r .n) (m .col-labels) → ReadPromise s m (lent t′ r′ c′) (gives (r .n))
   read-good h t′ r′ c′ p q u =
       let st = t .ended z .0 in
       let e = t .ended z .1 in
@@ -80,21 +74,21 @@ module _ (s : List ℕ) (m : Lent) (w : Wanted m) (few : length s ≤ sheet) (r 
         arith,
         length-append (st .entries) (replicate (length (st .row-labels) * length (st .row-labels) - length (st .entries)) absent),
       ) in
-      let tf : take (r .n * r .n) (r .kept .table) ≡ table .entries =
+      let tf : take (r .n * r .n) kept-table ≡ table .entries =
       ap (λ x. take (r .n * r .n) x) (e .held .table-held)
-      ∙ table-front (st .entries) (r .n * r .n) fit places-few
+      ∙ table-front (st .entries) (r .n * r .n) fit (places-few t z)
       ∙ ap (λ x. st .entries ++ replicate (x * x - length (st .entries)) absent) n in
-      let rf : take (8 * r .n) (r .kept .rows) ≡ slots (st .row-labels) =
-      ap (λ x. take (8 * x) (r .kept .rows)) n ∙ labels-front (r .kept .rows) (st .row-labels) (e .held .rows-held) (e .held .rows-stand) in
-      let cf : take (8 * r .n) (r .kept .cols) ≡ slots (st .col-labels) =
-      ap (λ x. take (8 * x) (r .kept .cols)) c ∙ labels-front (r .kept .cols) (st .col-labels) (e .held .cols-held) (e .held .cols-stand) in
+      let rf : take (8 * r .n) kept-rows ≡ slots (st .row-labels) =
+      ap (λ x. take (8 * x) kept-rows) n ∙ labels-front kept-rows (st .row-labels) (e .held .rows-held) (e .held .rows-stand) in
+      let cf : take (8 * r .n) kept-cols ≡ slots (st .col-labels) =
+      ap (λ x. take (8 * x) kept-cols) c ∙ labels-front kept-cols (st .col-labels) (e .held .cols-held) (e .held .cols-stand) in
       let rl : length (slots (st .row-labels)) ≡ 8 * r .n =
       slots-length (st .row-labels) (labels-short (st .row-labels) (e .held .rows-stand)) ∙ omega arith in
       let cl : length (slots (st .col-labels)) ≡ 8 * r .n =
       slots-length (st .col-labels) (labels-short (st .col-labels) (e .held .cols-stand)) ∙ omega arith in
       read table w few g (ap gives n)
-      (ap (λ x. lent x r′ c′) (p ∙ copied (table .entries) (r .kept .table) (m .table) (r .n * r .n) sq tf)
+      (ap (λ x. lent x r′ c′) (p ∙ copied (table .entries) kept-table (m .table) (r .n * r .n) sq tf)
       ∙ ap (λ x. lent (over (table .entries) (m .table)) x c′)
-      (q ∙ copied (slots (st .row-labels)) (r .kept .rows) (m .row-labels) (8 * r .n) rl rf)
+      (q ∙ copied (slots (st .row-labels)) kept-rows (m .row-labels) (8 * r .n) rl rf)
       ∙ ap (λ x. lent (over (table .entries) (m .table)) (over (slots (st .row-labels)) (m .row-labels)) x)
-      (u ∙ copied (slots (st .col-labels)) (r .kept .cols) (m .col-labels) (8 * r .n) cl cf))
+      (u ∙ copied (slots (st .col-labels)) kept-cols (m .col-labels) (8 * r .n) cl cf))

@@ -2,12 +2,14 @@
 use mathlib.Core.Path.{_≡_, refl, sym, ap, subst, subst⁻¹, _∙_}
 use mathlib.Core.Logic.{_≢_}
 use mathlib.Core.Bool.{Bool, true, false}
-use mathlib.Core.List.{List, [], _∷_, _++_, append-assoc, append-nil}
+use mathlib.Core.List.{List, [], _∷_, _++_}
 use Prim.Native.Nat.{ℕ, zero, suc, _+_, _-_, _*_, _<_, _≤_}
 use native.Mathlib.Omega.{arith}
+use native.Mathlib.Nat.{mul-le-mul}
 use native.Mathlib.Numerals.{add-one}
 use native.Mathlib.Decide.{ℕ-discrete}
-use lib.ListN.{length, getD, take, drop, replicate, length-append, length-drop, length-take, drop-of-length-le}
+use lib.IntN.{ℤ}
+use lib.ListN.{length, take, drop, replicate, length-append, length-drop, length-replicate}
 use lib.Seq.{split-at, drop-drop, getD-take, length-take-le}
 use mir.Syntax.{w64}
 use mir.Val.{Fits}
@@ -15,14 +17,13 @@ use Rattle.theory.specs.Limits.{rows}
 use Rattle.theory.specs.Table.{absent}
 use Rattle.sheet.specs.Labels.{slots}
 use Rattle.sheet.specs.Text.{feed}
-use Rattle.sheet.specs.Reading.{State, start, Heading, Ended, After, heading, row-label, col-label, order-line, begun, withRow, withCol, withOrder, Final, Outcome, good, wrong, tableOf, Reads, done, short, unfit, next}
+use Rattle.sheet.specs.Reading.{State, start, Heading, Ended, After, heading, row-label, col-label, order-line, begun, Final, Outcome, wrong, Reads, short, unfit, next}
 use Rattle.sheet.proofs.Lines.{Unbroken, Cut, unbroken, broken, cut}
-use Rattle.sheet.proofs.Slots.{length-more, labels-none}
-use Rattle.reader.specs.declared.Kept.{Kept}
+use Rattle.sheet.proofs.Slots.{length-more, labels-none, labels-short}
 use Rattle.reader.specs.declared.Walked.{Walked}
-use Rattle.reader.specs.declared.Count.{Count}
-use Rattle.reader.specs.declared.Count.the-variants.{Of, Nothing as NoCount}
-use Rattle.reader.specs.Parts.{LineEnd, HeadingOf, Holds, Due, LineKept, Ends, WalkTells}
+use Rattle.reader.specs.declared.Count.the-variants.{Nothing as NoCount}
+use Rattle.reader.specs.Parts.{LineEnd, HeadingOf, Store, store, Holds, Due, Within, LineKept, WalkTells}
+use Rattle.reader.proofs.KeepLaws.{holding-length}
 
 -- where the walk is: the bytes passed, the number of the next line, and that a reading of the rest is a reading of the whole
 pub record Reached (s : List ℕ) (st : State) (line at : ℕ) : Type 0 where
@@ -32,7 +33,7 @@ pub record Reached (s : List ℕ) (st : State) (line at : ℕ) : Type 0 where
   pub whole : (o : Outcome) → Reads st line (drop at s) o → Reads start 1 s o
 
 -- before the heading that comes after so many sections
-pub record Outer (s : List ℕ) (kept : Kept) (n section line at : ℕ) : Type 0 where
+pub record Outer (s : List ℕ) (kept : Store) (n section line at : ℕ) : Type 0 where
   pub st : State
   pub held : Holds kept st
   pub reached : Reached s st line at
@@ -44,7 +45,7 @@ pub record Outer (s : List ℕ) (kept : Kept) (n section line at : ℕ) : Type 0
   pub cols-are : 2 ≤ section → length (st .col-labels) ≡ length (st .row-labels)
 
 -- before line k of c in a section, both counted from 0
-pub record Inner (s : List ℕ) (kept : Kept) (n section line at c k : ℕ) : Type 0 where
+pub record Inner (s : List ℕ) (kept : Store) (n section line at c k : ℕ) : Type 0 where
   pub st : State
   pub held : Holds kept st
   pub reached : Reached s st line at
@@ -142,7 +143,7 @@ heading-same zero n c l h e = absurd (omega arith)
 heading-same (suc zero) n c l h e = omega (arith, h .0, h .1)
 heading-same (suc (suc s)) n c l h e = absurd (omega arith)
 
-module _ (s : List ℕ) (kept : Kept) (n section line at : ℕ) (u : Outer s kept n section line at) where
+module _ (s : List ℕ) (kept : Store) (n section line at : ℕ) (u : Outer s kept n section line at) where
   -- no heading: missing, or not fit
   pub outer-lack : (e : ℕ) → section < 3 → LineEnd (drop at s) e → at + e ≡ length s → Reads start 1 s (wrong line)
   outer-lack e g l z = lack s (u .st) line at e (u .reached) l z (λ f. omega (arith, f .last, u .section-is))
@@ -196,7 +197,7 @@ module _ (s : List ℕ) (kept : Kept) (n section line at : ℕ) (u : Outer s kep
   pub outer-final : section ≡ 3 → Final (u .st)
   outer-final z = record { last = u .section-is ∙ z; none-left = u .none-left }
 
-module _ (s : List ℕ) (kept : Kept) (n section line at c k : ℕ) (u : Inner s kept n section line at c k) (due : k < c) where
+module _ (s : List ℕ) (kept : Store) (n section line at c k : ℕ) (u : Inner s kept n section line at c k) (due : k < c) where
   pub inner-left : u .st .left ≡ suc (c - (k + 1))
   inner-left = omega (arith, u .left-is)
 
@@ -210,18 +211,45 @@ module _ (s : List ℕ) (kept : Kept) (n section line at c k : ℕ) (u : Inner s
         in-orders = λ z. sym (u .later (omega arith));
       }
 
-  pub inner-small : section < 2 → k < 32
-  inner-small z = omega (arith, u .small z)
+  -- no more labels are kept than there are rows
+  rows-small : section < 3 → length (u .st .row-labels) ≤ rows
+  rows-small three =
+      elim (ℕ-discrete section 0) [
+        | yes z ↦ omega (arith, u .in-rows z .0, u .small (omega arith))
+        | no nz ↦ omega (arith, u .later (omega arith), u .few)
+      ]
+
+  cols-small : section < 3 → length (u .st .col-labels) ≤ rows
+  cols-small three =
+      elim (ℕ-discrete section 0) [
+        | yes z ↦ omega (arith, u .in-rows z .2)
+        | no nz ↦ elim (ℕ-discrete section 1) [
+          | yes z ↦ omega (arith, u .in-cols z .0, u .small (omega arith))
+          | no nz′ ↦ omega (arith, u .in-orders (omega arith), rows-small three)
+        ]
+      ]
+
+  pub inner-within : section < 3 → Within section n k (kept .row-bytes) (kept .col-bytes)
+  inner-within three =
+      let st = u .st in
+      let h = u .held in
+      record {
+        three = three;
+        few = u .few;
+        room = λ z. omega (arith, u .small z);
+        rows-whole = holding-length (kept .row-bytes) (st .row-labels) (h .rows-held) (labels-short (st .row-labels) (h .rows-stand)) (rows-small three);
+        cols-whole = holding-length (kept .col-bytes) (st .col-labels) (h .cols-held) (labels-short (st .col-labels) (h .cols-stand)) (cols-small three);
+      }
 
   pub inner-lack : (e : ℕ) → LineEnd (drop at s) e → at + e ≡ length s → Reads start 1 s (wrong line)
   inner-lack e l z = lack s (u .st) line at e (u .reached) l z (λ f. omega (arith, f .none-left, inner-left))
 
-  pub inner-halt : (e : ℕ) (r : Kept) → LineEnd (drop at s) e → at + e ≢ length s → LineKept (u .st) (take (at + e - at) (drop at s)) r → r .fits ≡ false
-      → Reads start 1 s (wrong line)
-  inner-halt e r l more t f = halt s (u .st) line at e (u .reached) l more (t .unfit f)
+  pub inner-halt : (e : ℕ) (fits : Bool) (r : Store) → LineEnd (drop at s) e → at + e ≢ length s → LineKept (u .st) (take (at + e - at) (drop at s)) fits r
+      → fits ≡ false → Reads start 1 s (wrong line)
+  inner-halt e fits r l more t f = halt s (u .st) line at e (u .reached) l more (t .unfit f)
 
   -- what a line of a section leaves
-  module _ (e : ℕ) (r : Kept) (l : LineEnd (drop at s) e) (more : at + e ≢ length s) (three : section < 3) where
+  module _ (e : ℕ) (r : Store) (l : LineEnd (drop at s) e) (more : at + e ≢ length s) (three : section < 3) where
     inner-by : (st′ : State) → Holds r st′ → After (u .st) (take (at + e - at) (drop at s)) st′
         → After (u .st) (take (at + e - at) (drop at s)) st′ → Inner s r n section (line + 1) (at + e + 1) c (k + 1)
     inner-by st′ h a (heading d z g f) = absurd (omega (arith, inner-left))
@@ -285,11 +313,12 @@ module _ (s : List ℕ) (kept : Kept) (n section line at c k : ℕ) (u : Inner s
           small = λ b. absurd (omega arith);
         }
 
-    pub inner-pass : LineKept (u .st) (take (at + e - at) (drop at s)) r → r .fits ≡ true → Inner s r n section (line + 1) (at + e + 1) c (k + 1)
-    inner-pass t f = let g = t .fit f in inner-by (g .0) (g .2) (g .1) (g .1)
+    pub inner-pass : (fits : Bool) → LineKept (u .st) (take (at + e - at) (drop at s)) fits r → fits ≡ true
+        → Inner s r n section (line + 1) (at + e + 1) c (k + 1)
+    inner-pass fits t f = let g = t .fit f in inner-by (g .0) (g .2) (g .1) (g .1)
 
 -- after the last line of a section the next heading is due
-pub inner-last : (s : List ℕ) (kept : Kept) (n section line at c k : ℕ) → Inner s kept n section line at c k → c ≤ k → k ≤ c → section < 3
+pub inner-last : (s : List ℕ) (kept : Store) (n section line at c k : ℕ) → Inner s kept n section line at c k → c ≤ k → k ≤ c → section < 3
     → Outer s kept n (section + 1) line at
 inner-last s kept n section line at c k u p q three =
     record {
@@ -313,21 +342,20 @@ inner-last s kept n section line at c k u p q three =
     }
 
 -- the walk's first state: nothing said, nothing kept
-pub holds-nothing : (kept : Kept) → kept .rows ≡ replicate 256 0 → kept .cols ≡ replicate 256 0 → kept .table ≡ replicate 1024 absent → kept .next ≡ 0
-    → Holds kept start
+pub holds-nothing : Holds (store (replicate 1024 absent) (replicate 256 0) (replicate 256 0) 0) start
 unfolding slots
-holds-nothing kept r c t n =
+holds-nothing =
     record {
-      rows-held = r;
-      cols-held = c;
+      rows-held = refl;
+      cols-held = refl;
       rows-stand = labels-none;
       cols-stand = labels-none;
-      table-held = t;
-      next-held = n;
+      table-held = refl;
+      next-held = refl;
       few = omega arith;
     }
 
-pub outer-start : (s : List ℕ) (kept : Kept) → Holds kept start → Outer s kept 0 0 1 0
+pub outer-start : (s : List ℕ) (kept : Store) → Holds kept start → Outer s kept 0 0 1 0
 outer-start s kept h =
     record {
       st = start;
@@ -342,18 +370,19 @@ outer-start s kept h =
     }
 
 -- what the walk tells at each of its ends
-pub walk-stopped : (s : List ℕ) (r : Walked) → 1 ≤ r .wrong → Reads start 1 s (wrong (r .wrong)) → WalkTells s r
-walk-stopped s r h t = record { stopped = λ n. t; ended = λ z. absurd (omega arith) }
+pub walk-stopped : (s : List ℕ) (r : Walked) (t : List ℤ) (b c : List ℕ) → 1 ≤ r .wrong → Reads start 1 s (wrong (r .wrong)) → WalkTells s r t b c
+walk-stopped s r t b c h p = record { stopped = λ n. p; ended = λ z. absurd (omega arith) }
 
-pub walk-ended : (s : List ℕ) (kept : Kept) (n section line at w : ℕ) → w ≡ 0 → section ≡ 3 → Outer s kept n section line at
-    → WalkTells s (record { wrong = w; n = n; at = at; line = line; kept = kept })
-walk-ended s kept n section line at w z three u =
+pub walk-ended : (s : List ℕ) (t : List ℤ) (b c : List ℕ) (first n section line at w : ℕ) → w ≡ 0 → section ≡ 3
+    → Outer s (store t b c first) n section line at → WalkTells s (record { wrong = w; n = n; at = at; line = line }) t b c
+walk-ended s t b c first n section line at w z three u =
     record {
       stopped = λ n. absurd (n z);
       ended = λ y. (
         u .st,
         record {
-          final = outer-final s kept n section line at u three;
+          final = outer-final s (store t b c first) n section line at u three;
+          next = first;
           held = u .held;
           rows-are = u .rows-are;
           rows-few = u .few;
@@ -365,6 +394,30 @@ walk-ended s kept n section line at w z three u =
         },
       );
     }
+
+-- what is kept at the walk's end is whole and within the limits
+module _ {s : List ℕ} {r : Walked} {t : List ℤ} {b c : List ℕ} (told : WalkTells s r t b c) (z : r .wrong ≡ 0) where
+  pub rows-few : r .n ≤ 32
+  rows-few = told .ended z .1 .rows-few
+
+  pub places-few : r .n * r .n ≤ 1024
+  places-few = mul-le-mul {n₁ = r .n} {m₁ = r .n} {n₂ = 32} {m₂ = 32} rows-few rows-few
+
+  pub table-whole : length t ≡ 1024
+  table-whole =
+      let st = told .ended z .0 in
+      let h = told .ended z .1 .held in
+      ap length (h .table-held)
+      ∙ length-append (st .entries) (replicate (1024 - length (st .entries)) absent)
+      ∙ omega (arith, h .few, length-replicate {A = ℤ} (1024 - length (st .entries)) absent)
+
+  pub labels-whole : (length b ≡ 256) × (length c ≡ 256)
+  labels-whole =
+      let e = told .ended z .1 in
+      let h = e .held in (
+        holding-length b _ (h .rows-held) (labels-short _ (h .rows-stand)) (omega (arith, e .rows-are, e .rows-few)),
+        holding-length c _ (h .cols-held) (labels-short _ (h .cols-stand)) (omega (arith, e .rows-are, e .rows-few, e .cols-are)),
+      )
 
 pub next-fits : (s : List ℕ) (x : ℕ) → x < length s → Fits w64 (length s + 1) → Fits w64 (x + 1)
 next-fits s x h f = omega arith

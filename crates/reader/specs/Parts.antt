@@ -2,11 +2,11 @@
 -- `Nothing` that it is no such text at all.
 use mathlib.Core.Path.{_≡_}
 use mathlib.Core.Logic.{_≢_}
-use mathlib.Core.Bool.{true, false}
+use mathlib.Core.Bool.{Bool, true, false}
 use mathlib.Core.List.{List, [], _∷_, _++_}
 use Prim.Native.Nat.{ℕ, suc, _+_, _-_, _*_, _≤_, _<_}
 use lib.IntN.{ℤ}
-use lib.ListN.{length, getD, take, drop, replicate}
+use lib.ListN.{length, getD, drop, replicate}
 use Rattle.theory.specs.Limits.{rows, order}
 use Rattle.theory.specs.Table.{absent, Order}
 use Rattle.sheet.specs.Text.{feed, blank, text, signed}
@@ -21,8 +21,6 @@ use Rattle.reader.specs.declared.Value.{Value}
 use Rattle.reader.specs.declared.Value.the-variants.{Is, Nothing as NoValue}
 use Rattle.reader.specs.declared.Place.{Place}
 use Rattle.reader.specs.declared.Place.the-variants.{At, Nothing as NoPlace}
-use Rattle.reader.specs.declared.Slots.{Slots}
-use Rattle.reader.specs.declared.Kept.{Kept}
 use Rattle.reader.specs.declared.Walked.{Walked}
 
 -- the first line feed of s is at r, or s has none and r is its length
@@ -97,15 +95,26 @@ HeadingOf l section n NoCount = (c : ℕ) → Heading section n c l → ⊥
 abbrev pub Holding : List ℕ → List (List ℕ) → Type 0
 Holding b ls = b ≡ slots ls ++ replicate (width * rows - width * length ls) 0
 
--- after the labels ls the line l was fit to be a label, and is kept; or it was not
-pub record LabelKept (ls : List (List ℕ)) (l : List ℕ) (r : Slots) : Type 0 where
-  pub fit : r .fits ≡ true → Form l × New ls l × Holding (r .labels) (ls ++ (l ∷ []))
-  pub unfit : r .fits ≡ false → Form l → New ls l → ⊥
+-- after the labels ls the line l was fit to be a label, and the buffer b holds it too; or it was not
+pub record LabelKept (ls : List (List ℕ)) (l : List ℕ) (fits : Bool) (b : List ℕ) : Type 0 where
+  pub fit : fits ≡ true → Form l × New ls l × Holding b (ls ++ (l ∷ []))
+  pub unfit : fits ≡ false → Form l → New ls l → ⊥
+
+-- where the reader keeps what the lines so far said, until the sheet is known to be good: the table, the labels of the rows and of
+-- the columns, and the first place that no order has reached
+pub record Store : Type 0 where
+  pub table : List ℤ
+  pub row-bytes : List ℕ
+  pub col-bytes : List ℕ
+  pub next : ℕ
+
+abbrev pub store : List ℤ → List ℕ → List ℕ → ℕ → Store
+store t r c next = record { table = t; row-bytes = r; col-bytes = c; next = next }
 
 -- what is kept is what the lines so far said
-pub record Holds (kept : Kept) (st : State) : Type 0 where
-  pub rows-held : Holding (kept .rows) (st .row-labels)
-  pub cols-held : Holding (kept .cols) (st .col-labels)
+pub record Holds (kept : Store) (st : State) : Type 0 where
+  pub rows-held : Holding (kept .row-bytes) (st .row-labels)
+  pub cols-held : Holding (kept .col-bytes) (st .col-labels)
   pub rows-stand : Labels (st .row-labels)
   pub cols-stand : Labels (st .col-labels)
   pub table-held : kept .table ≡ st .entries ++ replicate (rows * rows - length (st .entries)) absent
@@ -120,15 +129,24 @@ pub record Due (section n k m : ℕ) (st : State) : Type 0 where
   pub in-cols : section ≡ 1 → length (st .col-labels) ≡ k
   pub in-orders : section ≡ 2 → length (st .row-labels) ≡ n
 
+-- line k of a section may be kept: the section, N and k are within the limits, and the label buffers are whole
+pub record Within (section n k : ℕ) (b c : List ℕ) : Type 0 where
+  pub three : section < 3
+  pub few : n ≤ rows
+  pub room : section < 2 → k < rows
+  pub rows-whole : length b ≡ width * rows
+  pub cols-whole : length c ≡ width * rows
+
 -- the line l can stand after those of st, and what it says is kept; or it cannot
-pub record LineKept (st : State) (l : List ℕ) (r : Kept) : Type 0 where
-  pub fit : r .fits ≡ true → (st′ : State) × After st l st′ × Holds r st′
-  pub unfit : r .fits ≡ false → (st′ : State) → After st l st′ → ⊥
+pub record LineKept (st : State) (l : List ℕ) (fits : Bool) (kept : Store) : Type 0 where
+  pub fit : fits ≡ true → (st′ : State) × After st l st′ × Holds kept st′
+  pub unfit : fits ≡ false → (st′ : State) → After st l st′ → ⊥
 
 -- the walk's end: a wrong line; or the sheet may end after the bytes passed, and what they said is kept
-pub record Ends (s : List ℕ) (r : Walked) (st : State) : Type 0 where
+pub record Ends (s : List ℕ) (r : Walked) (t : List ℤ) (b c : List ℕ) (st : State) : Type 0 where
   pub final : Final st
-  pub held : Holds (r .kept) st
+  pub next : ℕ
+  pub held : Holds (store t b c next) st
   pub rows-are : r .n ≡ length (st .row-labels)
   pub rows-few : r .n ≤ rows
   pub cols-are : length (st .col-labels) ≡ length (st .row-labels)
@@ -137,6 +155,6 @@ pub record Ends (s : List ℕ) (r : Walked) (st : State) : Type 0 where
   pub line-some : 1 ≤ r .line
   pub whole : (o : Outcome) → Reads st (r .line) (drop (r .at) s) o → Reads start 1 s o
 
-pub record WalkTells (s : List ℕ) (r : Walked) : Type 0 where
+pub record WalkTells (s : List ℕ) (r : Walked) (t : List ℤ) (b c : List ℕ) : Type 0 where
   pub stopped : r .wrong ≢ 0 → Reads start 1 s (wrong (r .wrong))
-  pub ended : r .wrong ≡ 0 → (st : State) × Ends s r st
+  pub ended : r .wrong ≡ 0 → (st : State) × Ends s r t b c st

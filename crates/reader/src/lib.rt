@@ -4,7 +4,7 @@ ghost use mathlib.Core.List.{List, _++_};
 ghost use Prim.Native.Nat.{ℕ, _+_, _*_, _<_, _≤_};
 ghost use lib.ListN.{length, take, drop};
 ghost use Rattle.orders.specs.Tested.{Tells};
-ghost use Rattle.reader.specs.Parts.{LineEnd, FrontOf, CountOf, FieldOf, ValueOf, PlaceOf, AfterOf, HeadingOf, Holding, LabelKept, Holds, Due, LineKept, WalkTells};
+ghost use Rattle.reader.specs.Parts.{LineEnd, FrontOf, CountOf, FieldOf, ValueOf, PlaceOf, AfterOf, HeadingOf, Holding, LabelKept, store, Holds, Due, Within, LineKept, WalkTells};
 ghost use Rattle.theory.specs.Limits.{rows};
 ghost use Rattle.sheet.specs.Labels.{Labels, width};
 ghost use Rattle.sheet.specs.Reading.{State, start};
@@ -27,7 +27,7 @@ const BLANK: u8 = 32;
 const MINUS: u8 = 45;
 
 // The largest order, without its sign.
-const SIZE: usize = 100;
+const SIZE: usize = orders::ORDER as usize;
 
 // N, or the refusal; a wrong line is in the refusal.
 pub enum Read {
@@ -59,28 +59,18 @@ enum Place {
     Nothing,
 }
 
-// Labels as the lent buffers hold them, and whether the last line was fit to be one.
-struct Slots {
-    fits: bool,
-    labels: [u8; LABELS],
-}
-
-// What the lines so far said, held by value until the sheet is known to be good; and whether the last line was fit.
+// Whether a line was fit, and the first place that no order has reached.
 struct Kept {
     fits: bool,
-    rows: [u8; LABELS],
-    cols: [u8; LABELS],
-    table: [i16; PLACES],
     next: usize,
 }
 
-// The wrong line, or 0; N; the bytes passed; the number of the line after them; and what the lines said.
+// The wrong line, or 0; N; the bytes passed; and the number of the line after them.
 struct Walked {
     wrong: usize,
     n: usize,
     at: usize,
     line: usize,
-    kept: Kept,
 }
 
 // The bytes before the first line feed; all of them where there is none.
@@ -279,140 +269,100 @@ fn heading(line: &[u8], section: usize, n: usize) -> Count
 }
 
 // The line's bytes in place k of the labels, filled up with zero bytes that stand there already.
-fn put_label(labels: [u8; LABELS], k: usize, line: &[u8]) -> [u8; LABELS]
-    requires { ⌜ width * k + length (now line) ≤ width * rows ⌝ }
-    ensures { λ r. ⌜ r ≡ paste labels (width * k) (now (line .entry)) (length (now (line .entry))) ⌝ }
+fn put_label(k: usize, line: &[u8], labels: &mut [u8; LABELS])
+    requires { ⌜ (width * k + length (now line) ≤ width * rows) × (length (now labels) ≡ width * rows) ⌝ }
+    ensures { λ _. ⌜ now (labels .exit) ≡ paste (now (labels .entry)) (width * k) (now (line .entry)) (length (now (line .entry))) ⌝ }
 {
-    let mut kept = labels;
     let at = WIDTH * k;
     let mut i = 0;
     while i < line.len() {
-        kept[at + i] = line[i];
+        labels[at + i] = line[i];
         i += 1;
     }
-    kept
 }
 
-// The line as label k, if it has the form of one and is unlike those before it.
-fn keep_label(labels: [u8; LABELS], k: usize, line: &[u8]) -> Slots
-    requires { ⌜ k < rows ⌝ }
-    ensures { λ r. ⌜ ((ls : List (List ℕ)) → Holding labels ls → length ls ≡ k → Labels ls → LabelKept ls (now (line .entry)) r) ⌝ }
+// Keeps the line as label k, and says whether it was fit: it has the form of a label and is unlike those before it. Rules out a line
+// that is not fit and passes, and a fit one that is turned away. What an unfit line leaves in the labels is not said: the walk ends.
+fn keep_label(k: usize, line: &[u8], labels: &mut [u8; LABELS]) -> bool
+    requires { ⌜ (k < rows) × (length (now labels) ≡ width * rows) ⌝ }
+    ensures { λ r. ⌜ ((ls : List (List ℕ))
+        → Holding (now (labels .entry)) ls
+        → length ls ≡ k
+        → Labels ls
+        → LabelKept ls (now (line .entry)) r (now (labels .exit))) ⌝ }
 {
-    if sheet::label_stands(line) {
-        let kept = put_label(labels, k, line);
-        if sheet::repeated(&kept, k) {
-            return Slots {
-                fits: false,
-                labels,
-            };
-        }
-        Slots {
-            fits: true,
-            labels: kept,
-        }
-    } else {
-        Slots {
-            fits: false,
-            labels,
-        }
+    if !sheet::label_stands(line) {
+        return false;
     }
+    put_label(k, line, &mut *labels);
+    !sheet::repeated(&*labels, k)
 }
 
-// The line as an order, if it says one at a place that no line before has reached.
-fn keep_order(kept: Kept, n: usize, line: &[u8]) -> Kept
+// Keeps the line as an order, if it says one at a place that no line before has reached. Rules out an order at another place or of
+// another value, and a place named twice.
+fn keep_order(n: usize, next: usize, line: &[u8], table: &mut [i16; PLACES]) -> Kept
     requires { ⌜ n ≤ rows ⌝ }
-    ensures { λ r. ⌜ ((st : State) (m : ℕ) → Holds kept st → Due 2 n 0 m st → LineKept st (now (line .entry)) r) ⌝ }
+    ensures { λ r. ⌜ ((st : State) (m : ℕ) (b c : List ℕ)
+        → Holds (store (now (table .entry)) b c next) st
+        → Due 2 n 0 m st
+        → LineKept st (now (line .entry)) (r .fits) (store (now (table .exit)) b c (r .next))) ⌝ }
 {
-    let rows = kept.rows;
-    let cols = kept.cols;
-    let mut table = kept.table;
-    let next = kept.next;
-    let place = order_line(line, n);
-    match place {
-        Place::Nothing => Kept {
-            fits: false,
-            rows,
-            cols,
-            table,
-            next,
-        },
-        Place::At { row, col, v } => {
-            let at = row * n + col;
-            if at < next {
-                return Kept {
-                    fits: false,
-                    rows,
-                    cols,
-                    table,
-                    next,
-                };
-            }
-            table[at] = v;
-            Kept {
-                fits: true,
-                rows,
-                cols,
-                table,
-                next: at + 1,
-            }
-        }
+    let Place::At { row, col, v } = order_line(line, n) else {
+        return Kept { fits: false, next };
+    };
+    let at = row * n + col;
+    if at < next {
+        return Kept { fits: false, next };
     }
-}
-
-// The line as line k of a section, from 0 both.
-fn keep(kept: Kept, section: usize, n: usize, k: usize, line: &[u8]) -> Kept
-    requires { ⌜ (section < 3) × (n ≤ rows) × (section < 2 → k < rows) ⌝ }
-    ensures { λ r. ⌜ ((st : State) (m : ℕ) → Holds kept st → Due section n k m st → LineKept st (now (line .entry)) r) ⌝ }
-{
-    let rows = kept.rows;
-    let cols = kept.cols;
-    let table = kept.table;
-    let next = kept.next;
-    match section {
-        0 => {
-            let slots = keep_label(rows, k, line);
-            let labels = slots.labels;
-            Kept {
-                fits: slots.fits,
-                rows: labels,
-                cols,
-                table,
-                next,
-            }
-        }
-        1 => {
-            let slots = keep_label(cols, k, line);
-            let labels = slots.labels;
-            Kept {
-                fits: slots.fits,
-                rows,
-                cols: labels,
-                table,
-                next,
-            }
-        }
-        _ => keep_order(kept, n, line),
-    }
-}
-
-// What is kept before the first line.
-fn nothing_kept() -> Kept
-    ensures { λ r. ⌜ Holds r start ⌝ }
-{
+    table[at] = v;
     Kept {
         fits: true,
-        rows: [0u8; LABELS],
-        cols: [0u8; LABELS],
-        table: [ABSENT; PLACES],
-        next: 0,
+        next: at + 1,
     }
 }
 
-// The sections and their lines, one after the other, left by label at the first wrong line.
-fn walk(sheet: &[u8]) -> Walked
-    ensures { λ r. ⌜ WalkTells (now (sheet .entry)) r ⌝ }
+// Keeps the line as line k of a section, from 0 both. Rules out a line kept in another section's place.
+fn keep(
+    section: usize,
+    n: usize,
+    k: usize,
+    next: usize,
+    line: &[u8],
+    table: &mut [i16; PLACES],
+    rows: &mut [u8; LABELS],
+    cols: &mut [u8; LABELS],
+) -> Kept
+    requires { ⌜ Within section n k (now rows) (now cols) ⌝ }
+    ensures { λ r. ⌜ ((st : State) (m : ℕ)
+        → Holds (store (now (table .entry)) (now (rows .entry)) (now (cols .entry)) next) st
+        → Due section n k m st
+        → LineKept st (now (line .entry)) (r .fits) (store (now (table .exit)) (now (rows .exit)) (now (cols .exit)) (r .next))) ⌝ }
 {
-    let mut kept = nothing_kept();
+    match section {
+        0 => Kept {
+            fits: keep_label(k, line, &mut *rows),
+            next,
+        },
+        1 => Kept {
+            fits: keep_label(k, line, &mut *cols),
+            next,
+        },
+        _ => keep_order(n, next, line, &mut *table),
+    }
+}
+
+// The sections and their lines, one after the other, left by label at the first wrong line. Rules out another line named wrong, and
+// a line passed whose label or order is not kept.
+fn walk(
+    sheet: &[u8],
+    table: &mut [i16; PLACES],
+    rows: &mut [u8; LABELS],
+    cols: &mut [u8; LABELS],
+) -> Walked
+    requires { ⌜ Holds (store (now table) (now rows) (now cols) 0) start ⌝ }
+    ensures { λ r. ⌜ WalkTells (now (sheet .entry)) r (now (table .exit)) (now (rows .exit)) (now (cols .exit)) ⌝ }
+{
+    let mut next: usize = 0;
     let mut n: usize = 0;
     let mut section: usize = 0;
     let mut line: usize = 1;
@@ -440,29 +390,34 @@ fn walk(sheet: &[u8]) -> Walked
                 wrong = line;
                 break 'sheet;
             }
-            kept = keep(kept, section, n, k, &sheet[at..end]);
+            let kept = keep(
+                section,
+                n,
+                k,
+                next,
+                &sheet[at..end],
+                &mut *table,
+                &mut *rows,
+                &mut *cols,
+            );
             if !kept.fits {
                 wrong = line;
                 break 'sheet;
             }
+            next = kept.next;
             at = end + 1;
             line += 1;
             k += 1;
         }
         section += 1;
     }
-    Walked {
-        wrong,
-        n,
-        at,
-        line,
-        kept,
-    }
+    Walked { wrong, n, at, line }
 }
 
-fn copy_bytes(from: [u8; LABELS], count: usize, to: &mut [u8])
-    requires { ⌜ (count ≤ width * rows) × (count ≤ length (now to)) ⌝ }
-    ensures { λ _. ⌜ now (to .exit) ≡ take count from ++ drop count (now (to .entry)) ⌝ }
+// The first bytes of what was kept, copied over the front of a lent buffer. Rules out a byte changed after them.
+fn copy_bytes(from: &[u8; LABELS], count: usize, to: &mut [u8])
+    requires { ⌜ (count ≤ width * rows) × (count ≤ length (now to)) × (length (now from) ≡ width * rows) ⌝ }
+    ensures { λ _. ⌜ now (to .exit) ≡ take count (now (from .entry)) ++ drop count (now (to .entry)) ⌝ }
 {
     let mut i = 0;
     while i < count {
@@ -471,9 +426,10 @@ fn copy_bytes(from: [u8; LABELS], count: usize, to: &mut [u8])
     }
 }
 
-fn copy_entries(from: [i16; PLACES], count: usize, to: &mut [i16])
-    requires { ⌜ (count ≤ rows * rows) × (count ≤ length (now to)) ⌝ }
-    ensures { λ _. ⌜ now (to .exit) ≡ take count from ++ drop count (now (to .entry)) ⌝ }
+// The same of entries.
+fn copy_entries(from: &[i16; PLACES], count: usize, to: &mut [i16])
+    requires { ⌜ (count ≤ rows * rows) × (count ≤ length (now to)) × (length (now from) ≡ rows * rows) ⌝ }
+    ensures { λ _. ⌜ now (to .exit) ≡ take count (now (from .entry)) ++ drop count (now (to .entry)) ⌝ }
 {
     let mut i = 0;
     while i < count {
@@ -501,7 +457,11 @@ pub fn read_sheet(sheet: &[u8], table: &mut [i16], rows: &mut [u8], cols: &mut [
     if SHEET < sheet.len() {
         return Read::Refused(Refusal::TooLong);
     }
-    let walked = walk(sheet);
+    // What the lines say stands here until the whole sheet is known to be good.
+    let mut entries = [ABSENT; PLACES];
+    let mut row_labels = [0u8; LABELS];
+    let mut col_labels = [0u8; LABELS];
+    let walked = walk(sheet, &mut entries, &mut row_labels, &mut col_labels);
     let wrong = walked.wrong;
     if wrong != 0 {
         return Read::Refused(Refusal::Line(wrong));
@@ -512,12 +472,8 @@ pub fn read_sheet(sheet: &[u8], table: &mut [i16], rows: &mut [u8], cols: &mut [
         return Read::Refused(Refusal::Line(line));
     }
     let n = walked.n;
-    let kept = walked.kept;
-    let entries = kept.table;
-    let row_labels = kept.rows;
-    let col_labels = kept.cols;
-    copy_entries(entries, n * n, table);
-    copy_bytes(row_labels, WIDTH * n, rows);
-    copy_bytes(col_labels, WIDTH * n, cols);
+    copy_entries(&entries, n * n, table);
+    copy_bytes(&row_labels, WIDTH * n, rows);
+    copy_bytes(&col_labels, WIDTH * n, cols);
     Read::Rows(n)
 }

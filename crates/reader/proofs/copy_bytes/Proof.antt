@@ -2,24 +2,24 @@
 use borrow.Author.Needs.{needs}
 use native.Mathlib.Omega.{arith}
 use Rattle.sheet.proofs.Bytes.{copy-next}
-use Prim.Native.Nat.{ℕ, _+_, _≤_, _<_, _-_}
-use mathlib.Core.Path.{_≡_, refl, sym, ap, _∙_}
+use Prim.Native.Nat.{_+_, _≤_, _-_}
+use mathlib.Core.Path.{_≡_, refl, ap, _∙_}
 use mathlib.Core.List.{_++_}
 use lib.ListN.{length, getD, set, take, drop, length-set}
 use Rattle.reader.proofs.copy_bytes.Statement.{statement}
 use Rattle.reader.proofs.copy_bytes.Tie as tie
 
 abbrev Inv-loop : tie.InvT-loop
-Inv-loop count to₀ from i₀ to i = (i ≤ count) × (count ≤ length from) × (count ≤ length to₀) × (length to ≡ length to₀) × (to ≡ take i from ++ drop i to₀)
+Inv-loop from count to₀ i₀ to i = (i ≤ count) × (count ≤ 256) × (length from ≡ 256) × (count ≤ length to₀) × (length to ≡ length to₀) × (to ≡ take i from ++ drop i to₀)
 
 abbrev μ-loop : tie.MeasureT-loop
-μ-loop count to₀ from i₀ to i = count - i
+μ-loop from count to₀ i₀ to i = count - i
 
 loop-holds : tie.Need-loop-holds Inv-loop μ-loop
-loop-holds c = (omega arith, search needs, omega arith, refl, refl)
+loop-holds c = (omega arith, c .pre .0, c .pre .2, c .pre .1, refl, refl)
 
-array-read-to : tie.Need-array-read-to Inv-loop μ-loop
-array-read-to c = search needs
+element-copy-out-to : tie.Need-element-copy-out-to Inv-loop μ-loop
+element-copy-out-to c = omega arith
 
 slice-write-to : tie.Need-slice-write-to Inv-loop μ-loop
 slice-write-to c = omega arith
@@ -28,29 +28,33 @@ add-i : tie.Need-add-i Inv-loop μ-loop
 add-i c = search needs
 
 loop-less : tie.Need-loop-less Inv-loop μ-loop
-loop-less c = search needs
+loop-less c = omega arith
 
 loop-again : tie.Need-loop-again Inv-loop μ-loop
-loop-again c = let loop′ = c .before .loop in
-    let args′ = c .before .before .args in
+loop-again c =
+    let loop′ = c .before .before .loop in
+    let args′ = c .before .before .before .args in
     let l = loop′ in (
       omega arith,
       l .inv .1,
       l .inv .2,
-      simp length-set (l .inv .3),
-      ap (λ x. set x (l .i) (getD (args′ .t1) (l .i) 0)) (l .inv .4) ∙ copy-next (args′ .t1) (args′ .to .now) (l .i) 0 (omega arith)
+      l .inv .3,
+      simp length-set (l .inv .4),
+      ap (λ x. set x (l .i) (getD (args′ .from .now) (l .i) 0)) (l .inv .5) ∙ copy-next (args′ .from .now) (args′ .to .now) (l .i) 0 (omega arith)
           (omega arith),
     )
 
 same-length : tie.Need-same-length Inv-loop μ-loop
-same-length c = c .before .loop .inv .3
+same-length c =
+    let loop′ = c .before .loop in
+    loop′ .inv .4
 
 returns : tie.Need-returns Inv-loop μ-loop
-returns c = let loop′ = c .before .loop in
+returns c =
+    let loop′ = c .before .loop in
     let args′ = c .before .before .args in
-    let l = loop′ in
-    let e : l .i ≡ args′ .count = omega arith in
-    l .inv .4 ∙ ap (λ x. take x (args′ .t1) ++ drop x (args′ .to .now)) e
+    let e : loop′ .i ≡ args′ .count = omega arith in
+    loop′ .inv .5 ∙ ap (λ x. take x (args′ .from .now) ++ drop x (args′ .to .now)) e
 
 pub copy-bytes-spec : {M : Type 1} → statement M
 copy-bytes-spec =
@@ -59,7 +63,7 @@ copy-bytes-spec =
     Inv-loop
     μ-loop
     loop-holds
-    array-read-to
+    element-copy-out-to
     slice-write-to
     add-i
     loop-less

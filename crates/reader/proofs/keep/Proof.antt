@@ -1,46 +1,55 @@
 -- A line is kept as a label of its section, or as an order. Assumes nothing.
-use borrow.Author.Needs.{needs}
 use native.Mathlib.Omega.{arith}
-use Rattle.reader.proofs.KeepLaws.{kept-row, kept-col}
-use mathlib.Core.Path.{_≡_, refl, sym, ap, subst, _∙_}
+use mathlib.Core.Path.{_≡_, refl, subst}
 use Rattle.reader.specs.Parts.{Due}
+use Rattle.reader.proofs.KeepLaws.{kept-row, kept-col}
 use Rattle.reader.proofs.keep.Statement.{statement}
 use Rattle.reader.proofs.keep.Tie as tie
 
 keep-label-requires : tie.Need-keep-label-requires
-keep-label-requires c κs = c .before .before .before .before .before .pre .2 (omega arith)
+keep-label-requires c κs =
+    let pre′ = c .before .before .before .pre in
+    (pre′ .room (omega arith), pre′ .rows-whole)
 
 keep-label-requires-2 : tie.Need-keep-label-requires-2
-keep-label-requires-2 c κs = c .before .before .before .before .before .pre .2 (omega arith)
+keep-label-requires-2 c κs =
+    let pre′ = c .before .before .before .pre in
+    (pre′ .room (omega arith), pre′ .cols-whole)
 
 keep-order-requires : tie.Need-keep-order-requires
-keep-order-requires c κs = search needs
+keep-order-requires c κs =
+    let pre′ = c .before .before .before .pre in
+    pre′ .few
 
 returns : tie.Need-returns
-returns c = let args′ = c .before .before .before .before .before .before .before .args in
+returns c =
+    let args′ = c .before .before .before .before .args in
     let match′ = c .before .before .match in
-    let keep-label′ = c .before .keep-label in
+    let keep-label′ = c .keep-label in
     λ st m h d.
     let g = subst (λ x. Due x (args′ .n) (args′ .k) m st) (match′ .keys1) d in
-    kept-row (args′ .kept) (args′ .n) (args′ .k) m (args′ .line .now) st h g (keep-label′ .result)
+    kept-row _ (args′ .n) (args′ .k) m (args′ .line .now) st h g (keep-label′ .result) _
     (keep-label′ .ensures (st .row-labels) (h .rows-held) (g .in-rows refl) (h .rows-stand))
 
 returns-2 : tie.Need-returns-2
-returns-2 c = let args′ = c .before .before .before .before .before .before .before .args in
+returns-2 c =
+    let args′ = c .before .before .before .before .args in
     let match′ = c .before .before .match in
-    let keep-label2′ = c .before .keep-label2 in
+    let keep-label2′ = c .keep-label2 in
     λ st m h d.
     let g = subst (λ x. Due x (args′ .n) (args′ .k) m st) (match′ .keys2) d in
-    kept-col (args′ .kept) (args′ .n) (args′ .k) m (args′ .line .now) st h g (keep-label2′ .result)
+    kept-col _ (args′ .n) (args′ .k) m (args′ .line .now) st h g (keep-label2′ .result) _
     (keep-label2′ .ensures (st .col-labels) (h .cols-held) (g .in-cols refl) (h .cols-stand))
 
 returns-3 : tie.Need-returns-3
-returns-3 c = let args′ = c .before .before .before .before .before .before .args in
+returns-3 c =
+    let args′ = c .before .before .before .before .args in
+    let pre′ = c .before .before .before .before .pre in
     let keep-order′ = c .keep-order in
     λ st m h d.
-    let e : args′ .section ≡ 2 = omega arith in
+    let e : args′ .section ≡ 2 = omega (arith, pre′ .three) in
     let g = subst (λ x. Due x (args′ .n) (args′ .k) m st) e d in
-    keep-order′ .ensures st m h
+    keep-order′ .ensures st m _ _ h
     (record {
       section-is = g .section-is;
       left-is = g .left-is;

@@ -1,19 +1,19 @@
 -- The bytes of a label so far stand in its place. Assumes nothing.
 use borrow.Author.Needs.{needs}
 use native.Mathlib.Omega.{arith}
-use Prim.Native.Nat.{ℕ, _+_, _*_, _≤_, _<_, _-_}
-use mathlib.Core.Path.{_≡_, refl, sym, ap, _∙_}
+use Prim.Native.Nat.{_+_, _*_, _≤_, _-_}
+use mathlib.Core.Path.{_≡_, sym, ap, _∙_}
 use native.Mathlib.Numerals.{add-one}
-use lib.ListN.{length, getD, set, take, drop, length-set}
+use lib.ListN.{length, getD, set, length-set}
 use lib.Seq.{paste, paste-zero, paste-suc}
 use Rattle.reader.proofs.put_label.Statement.{statement}
 use Rattle.reader.proofs.put_label.Tie as tie
 
 abbrev Inv-loop : tie.InvT-loop
-Inv-loop k line kept₀ at i₀ kept i = (i ≤ length line) × (at + length line ≤ 256) × (length kept₀ ≡ 256) × (length kept ≡ 256) × (kept ≡ paste kept₀ at line i)
+Inv-loop k line labels₀ at i₀ labels i = (i ≤ length line) × (at + length line ≤ 256) × (length labels₀ ≡ 256) × (length labels ≡ 256) × (labels ≡ paste labels₀ at line i)
 
 abbrev μ-loop : tie.MeasureT-loop
-μ-loop k line kept₀ at i₀ kept i = length line - i
+μ-loop k line labels₀ at i₀ labels i = length line - i
 
 mul-at : tie.Need-mul-at Inv-loop μ-loop
 mul-at c = search needs
@@ -21,21 +21,20 @@ mul-at c = search needs
 loop-holds : tie.Need-loop-holds Inv-loop μ-loop
 loop-holds c = (
   omega arith,
-  omega arith,
-  search needs,
-  search needs,
-  paste-zero (c .args .labels) (8 * c .args .k)
-      (c .args .line .now),
+  c .pre .0,
+  c .pre .1,
+  c .pre .1,
+  paste-zero (c .args .labels .now) (8 * c .args .k) (c .args .line .now),
 )
 
-shared-slice-read-kept : tie.Need-shared-slice-read-kept Inv-loop μ-loop
-shared-slice-read-kept c = search needs
+shared-slice-read-labels : tie.Need-shared-slice-read-labels Inv-loop μ-loop
+shared-slice-read-labels c = search needs
 
-add-kept : tie.Need-add-kept Inv-loop μ-loop
-add-kept c = search needs
+add-labels : tie.Need-add-labels Inv-loop μ-loop
+add-labels c = search needs
 
-array-write-kept : tie.Need-array-write-kept Inv-loop μ-loop
-array-write-kept c = search needs
+element-write-labels : tie.Need-element-write-labels Inv-loop μ-loop
+element-write-labels c = search needs
 
 add-i : tie.Need-add-i Inv-loop μ-loop
 add-i c = search needs
@@ -44,7 +43,8 @@ loop-less : tie.Need-loop-less Inv-loop μ-loop
 loop-less c = search needs
 
 loop-again : tie.Need-loop-again Inv-loop μ-loop
-loop-again c = let loop′ = c .before .before .loop in
+loop-again c =
+    let loop′ = c .before .before .loop in
     let args′ = c .before .before .before .args in
     let l = loop′ in (
       omega arith,
@@ -52,16 +52,16 @@ loop-again c = let loop′ = c .before .before .loop in
       l .inv .2,
       simp length-set (l .inv .3),
       ap (λ x. set x (8 * args′ .k + l .i) (getD (args′ .line .now) (l .i) 0)) (l .inv .4)
-          ∙ paste-suc (args′ .labels) (8 * args′ .k) (args′ .line .now) (l .i) 0 (omega arith) (omega arith)
-          ∙ ap (λ x. paste (args′ .labels) (8 * args′ .k) (args′ .line .now) x) (sym (add-one (l .i))),
+          ∙ paste-suc (args′ .labels .now) (8 * args′ .k) (args′ .line .now) (l .i) 0 (omega arith) (omega arith)
+          ∙ ap (λ x. paste (args′ .labels .now) (8 * args′ .k) (args′ .line .now) x) (sym (add-one (l .i))),
     )
 
 returns : tie.Need-returns Inv-loop μ-loop
-returns c = let loop′ = c .before .loop in
+returns c =
+    let loop′ = c .before .loop in
     let args′ = c .before .before .args in
-    let l = loop′ in
-    let e : l .i ≡ length (args′ .line .now) = omega arith in
-    l .inv .4 ∙ ap (λ x. paste (args′ .labels) (8 * args′ .k) (args′ .line .now) x) e
+    let e : loop′ .i ≡ length (args′ .line .now) = omega arith in
+    loop′ .inv .4 ∙ ap (λ x. paste (args′ .labels .now) (8 * args′ .k) (args′ .line .now) x) e
 
 pub put-label-spec : {M : Type 1} → statement M
 put-label-spec =
@@ -71,9 +71,9 @@ put-label-spec =
     μ-loop
     mul-at
     loop-holds
-    shared-slice-read-kept
-    add-kept
-    array-write-kept
+    shared-slice-read-labels
+    add-labels
+    element-write-labels
     add-i
     loop-less
     loop-again

@@ -1,10 +1,10 @@
 -- The reader tests lengths, walks the sheet, and copies out what was kept. Assumes nothing.
 use borrow.Author.Needs.{needs}
 use native.Mathlib.Omega.{arith}
-use mathlib.Core.Path.{_≡_, refl, sym}
-use Prim.Native.Nat.{_*_}
+use mathlib.Core.Path.{refl}
 use Rattle.reader.specs.Promise.{lent, refused, wrong-length, too-long, wrong-line}
-use Rattle.reader.proofs.PromiseLaws.{wanted, read-surplus, rows-few, places-few, read-good}
+use Rattle.reader.proofs.WalkLaws.{holds-nothing, rows-few, places-few, table-whole, labels-whole}
+use Rattle.reader.proofs.PromiseLaws.{wanted, read-surplus, read-good}
 use Rattle.reader.proofs.read_sheet.Statement.{statement}
 use Rattle.reader.proofs.read_sheet.Tie as tie
 
@@ -18,7 +18,8 @@ returns-3 : tie.Need-returns-3
 returns-3 c = refused (wrong-length (λ w. c .if3 .taken (w .cols-length)) refl) refl
 
 returns-4 : tie.Need-returns-4
-returns-4 c = let args′ = c .before .before .before .before .before .before .before .args in
+returns-4 c =
+    let args′ = c .before .before .before .before .before .before .before .args in
     let if1′ = c .before .before .before .if1 in
     let if2′ = c .before .before .if2 in
     let if3′ = c .before .if3 in
@@ -27,170 +28,77 @@ returns-4 c = let args′ = c .before .before .before .before .before .before .b
     (if4′ .taken) refl) refl
 
 walk-requires : tie.Need-walk-requires
-walk-requires c κs = search needs
+walk-requires c κs = holds-nothing
 
 returns-5 : tie.Need-returns-5
-returns-5 c = let args′ = c .before .before .before .before .before .before .before .before .before .args in
-    let if1′ = c .before .before .before .before .before .if1 in
-    let if2′ = c .before .before .before .before .if2 in
-    let if3′ = c .before .before .before .if3 in
-    let if4′ = c .before .before .if4 in
+returns-5 c =
+    let args′ = c .before .before .before .before .before .before .before .before .before .before .before .before .args in
+    let if1′ = c .before .before .before .before .before .before .before .before .if1 in
+    let if2′ = c .before .before .before .before .before .before .before .if2 in
+    let if3′ = c .before .before .before .before .before .before .if3 in
+    let if4′ = c .before .before .before .before .before .if4 in
     let walk′ = c .before .walk in
     let if5′ = c .if5 in
     refused (wrong-line _ (wanted (args′ .table .now) (args′ .rows .now) (args′ .cols .now) (if1′ .left) (if2′ .left) (if3′ .left))
     (if4′ .left) (walk′ .ensures .stopped (if5′ .taken)) refl) refl
 
 returns-6 : tie.Need-returns-6
-returns-6 c = let args′ = c .before .before .before .before .before .before .before .before .before .before .args in
-    let if1′ = c .before .before .before .before .before .before .if1 in
-    let if2′ = c .before .before .before .before .before .if2 in
-    let if3′ = c .before .before .before .before .if3 in
-    let if4′ = c .before .before .before .if4 in
+returns-6 c =
+    let args′ = c .before .before .before .before .before .before .before .before .before .before .before .before .before .args in
+    let if1′ = c .before .before .before .before .before .before .before .before .before .if1 in
+    let if2′ = c .before .before .before .before .before .before .before .before .if2 in
+    let if3′ = c .before .before .before .before .before .before .before .if3 in
+    let if4′ = c .before .before .before .before .before .before .if4 in
     let walk′ = c .before .before .walk in
     let if5′ = c .before .if5 in
     let if6′ = c .if6 in
     read-surplus (args′ .sheet .now) (lent (args′ .table .now) (args′ .rows .now) (args′ .cols .now)) (wanted (args′ .table .now)
-    (args′ .rows .now) (args′ .cols .now) (if1′ .left) (if2′ .left) (if3′ .left)) (if4′ .left) (walk′ .result) (walk′ .ensures)
+    (args′ .rows .now) (args′ .cols .now) (if1′ .left) (if2′ .left) (if3′ .left)) (if4′ .left) (walk′ .result) _ _ _ (walk′ .ensures)
     (if5′ .left) (if6′ .taken)
 
 mul-copy-entries : tie.Need-mul-copy-entries
-mul-copy-entries c = let args′ =
-    c .before .before .before .before .before .before .before .before .before .before .before .before .before .before .args in
-    let if1′ = c .before .before .before .before .before .before .before .before .before .before .if1 in
-    let if2′ = c .before .before .before .before .before .before .before .before .before .if2 in
-    let if3′ = c .before .before .before .before .before .before .before .before .if3 in
-    let if4′ = c .before .before .before .before .before .before .before .if4 in
-    let walk′ = c .before .before .before .before .before .before .walk in
-    let if5′ = c .before .before .before .before .before .if5 in
-    omega (
-      arith,
-      places-few (args′ .sheet .now) (lent (args′ .table .now) (args′ .rows .now) (args′ .cols .now)) (wanted
-          (args′ .table .now) (args′ .rows .now) (args′ .cols .now) (if1′ .left) (if2′ .left) (if3′ .left)) (if4′ .left) (walk′ .result)
-          (walk′ .ensures) (if5′ .left),
-    )
+mul-copy-entries c =
+    let walk′ = c .before .before .before .walk in
+    let if5′ = c .before .before .if5 in
+    omega (arith, places-few (walk′ .ensures) (if5′ .left))
 
 copy-entries-requires : tie.Need-copy-entries-requires
-copy-entries-requires c κs = let args′ =
-    c .before .before .before .before .before .before .before .before .before .before .before .before .before .before .before .args
-    in
+copy-entries-requires c κs =
+    let walk′ = c .before .before .before .before .walk in
+    let if5′ = c .before .before .before .if5 in
     let if1′ = c .before .before .before .before .before .before .before .before .before .before .before .if1 in
-    let if2′ = c .before .before .before .before .before .before .before .before .before .before .if2 in
-    let if3′ = c .before .before .before .before .before .before .before .before .before .if3 in
-    let if4′ = c .before .before .before .before .before .before .before .before .if4 in
-    let walk′ = c .before .before .before .before .before .before .before .walk in
-    let if5′ = c .before .before .before .before .before .before .if5 in (
-      places-few (args′ .sheet .now) (lent (args′ .table .now) (args′ .rows .now) (args′ .cols .now)) (wanted (args′ .table .now)
-          (args′ .rows .now) (args′ .cols .now) (if1′ .left) (if2′ .left) (if3′ .left)) (if4′ .left) (walk′ .result) (walk′ .ensures)
-          (if5′ .left),
-      omega (
-        arith,
-        places-few (args′ .sheet .now) (lent (args′ .table .now) (args′ .rows .now) (args′ .cols .now))
-            (wanted (args′ .table .now) (args′ .rows .now) (args′ .cols .now) (if1′ .left) (if2′ .left) (if3′ .left)) (if4′ .left)
-            (walk′ .result) (walk′ .ensures) (if5′ .left),
-        if1′ .left,
-      ),
-    )
+    let few = places-few (walk′ .ensures) (if5′ .left) in
+    (few, omega (arith, few, if1′ .left), table-whole (walk′ .ensures) (if5′ .left))
 
 mul-copy-bytes : tie.Need-mul-copy-bytes
-mul-copy-bytes c = let args′ =
-    c .before .before .before .before .before .before .before .before .before .before .before .before .before .before .before .before .before .args
-    in
-    let if1′ = c .before .before .before .before .before .before .before .before .before .before .before .before .before .if1 in
-    let if2′ = c .before .before .before .before .before .before .before .before .before .before .before .before .if2 in
-    let if3′ = c .before .before .before .before .before .before .before .before .before .before .before .if3 in
-    let if4′ = c .before .before .before .before .before .before .before .before .before .before .if4 in
-    let walk′ = c .before .before .before .before .before .before .before .before .before .walk in
-    let if5′ = c .before .before .before .before .before .before .before .before .if5 in
-    omega (
-      arith,
-      rows-few (args′ .sheet .now) (lent (args′ .table .now) (args′ .rows .now) (args′ .cols .now)) (wanted
-          (args′ .table .now) (args′ .rows .now) (args′ .cols .now) (if1′ .left) (if2′ .left) (if3′ .left)) (if4′ .left) (walk′ .result)
-          (walk′ .ensures) (if5′ .left),
-    )
+mul-copy-bytes c =
+    let walk′ = c .before .before .before .before .before .before .before .walk in
+    let if5′ = c .before .before .before .before .before .before .if5 in
+    omega (arith, rows-few (walk′ .ensures) (if5′ .left))
 
 copy-bytes-requires : tie.Need-copy-bytes-requires
-copy-bytes-requires c κs = let args′ =
-    c .before .before .before .before .before .before .before .before .before .before .before .before .before .before .before .before .before .before .args
-    in
-    let if1′ =
-    c .before .before .before .before .before .before .before .before .before .before .before .before .before .before .if1 in
-    let if2′ = c .before .before .before .before .before .before .before .before .before .before .before .before .before .if2 in
-    let if3′ = c .before .before .before .before .before .before .before .before .before .before .before .before .if3 in
-    let if4′ = c .before .before .before .before .before .before .before .before .before .before .before .if4 in
-    let walk′ = c .before .before .before .before .before .before .before .before .before .before .walk in
-    let if5′ = c .before .before .before .before .before .before .before .before .before .if5 in (
-      omega (
-        arith,
-        rows-few (args′ .sheet .now) (lent (args′ .table .now) (args′ .rows .now) (args′ .cols .now)) (wanted
-            (args′ .table .now) (args′ .rows .now) (args′ .cols .now) (if1′ .left) (if2′ .left) (if3′ .left)) (if4′ .left) (walk′ .result)
-            (walk′ .ensures) (if5′ .left),
-      ),
-      omega (
-        arith,
-        rows-few (args′ .sheet .now) (lent (args′ .table .now) (args′ .rows .now)
-            (args′ .cols .now)) (wanted (args′ .table .now) (args′ .rows .now) (args′ .cols .now) (if1′ .left) (if2′ .left) (if3′ .left))
-            (if4′ .left) (walk′ .result) (walk′ .ensures) (if5′ .left),
-        if2′ .left,
-      ),
-    )
+copy-bytes-requires c κs =
+    let walk′ = c .before .before .before .before .before .before .before .before .walk in
+    let if5′ = c .before .before .before .before .before .before .before .if5 in
+    let if2′ = c .before .before .before .before .before .before .before .before .before .before .before .before .before .before .if2 in
+    let few = rows-few (walk′ .ensures) (if5′ .left) in
+    let whole = labels-whole (walk′ .ensures) (if5′ .left) in
+    (omega (arith, few), omega (arith, few, if2′ .left), omega (arith, whole .0, whole .1))
 
 mul-copy-bytes-2 : tie.Need-mul-copy-bytes-2
-mul-copy-bytes-2 c = let args′ =
-    c .before .before .before .before .before .before .before .before .before .before .before .before .before .before .before .before .before .before .before .before .before .args
-    in
-    let if1′ =
-    c .before .before .before .before .before .before .before .before .before .before .before .before .before .before .before .before .before .if1
-    in
-    let if2′ =
-    c .before .before .before .before .before .before .before .before .before .before .before .before .before .before .before .before .if2
-    in
-    let if3′ =
-    c .before .before .before .before .before .before .before .before .before .before .before .before .before .before .before .if3
-    in
-    let if4′ =
-    c .before .before .before .before .before .before .before .before .before .before .before .before .before .before .if4 in
-    let walk′ = c .before .before .before .before .before .before .before .before .before .before .before .before .before .walk in
-    let if5′ = c .before .before .before .before .before .before .before .before .before .before .before .before .if5 in
-    omega (
-      arith,
-      rows-few (args′ .sheet .now) (lent (args′ .table .now) (args′ .rows .now) (args′ .cols .now)) (wanted
-          (args′ .table .now) (args′ .rows .now) (args′ .cols .now) (if1′ .left) (if2′ .left) (if3′ .left)) (if4′ .left) (walk′ .result)
-          (walk′ .ensures) (if5′ .left),
-    )
+mul-copy-bytes-2 c =
+    let walk′ = c .before .before .before .before .before .before .before .before .before .before .before .before .walk in
+    let if5′ = c .before .before .before .before .before .before .before .before .before .before .before .if5 in
+    omega (arith, rows-few (walk′ .ensures) (if5′ .left))
 
 copy-bytes-requires-2 : tie.Need-copy-bytes-requires-2
-copy-bytes-requires-2 c κs = let args′ =
-    c .before .before .before .before .before .before .before .before .before .before .before .before .before .before .before .before .before .before .before .before .before .before .args
-    in
-    let if1′ =
-    c .before .before .before .before .before .before .before .before .before .before .before .before .before .before .before .before .before .before .if1
-    in
-    let if2′ =
-    c .before .before .before .before .before .before .before .before .before .before .before .before .before .before .before .before .before .if2
-    in
-    let if3′ =
-    c .before .before .before .before .before .before .before .before .before .before .before .before .before .before .before .before .if3
-    in
-    let if4′ =
-    c .before .before .before .before .before .before .before .before .before .before .before .before .before .before .before .if4
-    in
-    let walk′ =
-    c .before .before .before .before .before .before .before .before .before .before .before .before .before .before .walk in
-    let if5′ = c .before .before .before .before .before .before .before .before .before .before .before .before .before .if5 in (
-      omega (
-        arith,
-        rows-few (args′ .sheet .now) (lent (args′ .table .now) (args′ .rows .now) (args′ .cols .now)) (wanted
-            (args′ .table .now) (args′ .rows .now) (args′ .cols .now) (if1′ .left) (if2′ .left) (if3′ .left)) (if4′ .left) (walk′ .result)
-            (walk′ .ensures) (if5′ .left),
-      ),
-      omega (
-        arith,
-        rows-few (args′ .sheet .now) (lent (args′ .table .now) (args′ .rows .now)
-            (args′ .cols .now)) (wanted (args′ .table .now) (args′ .rows .now) (args′ .cols .now) (if1′ .left) (if2′ .left) (if3′ .left))
-            (if4′ .left) (walk′ .result) (walk′ .ensures) (if5′ .left),
-        if3′ .left,
-      ),
-    )
+copy-bytes-requires-2 c κs =
+    let walk′ = c .before .before .before .before .before .before .before .before .before .before .before .before .before .walk in
+    let if5′ = c .before .before .before .before .before .before .before .before .before .before .before .before .if5 in
+    let if3′ = c .before .before .before .before .before .before .before .before .before .before .before .before .before .before .before .before .before .before .if3 in
+    let few = rows-few (walk′ .ensures) (if5′ .left) in
+    let whole = labels-whole (walk′ .ensures) (if5′ .left) in
+    (omega (arith, few), omega (arith, few, if3′ .left), omega (arith, whole .0, whole .1))
 
 same-length : tie.Need-same-length
 same-length c = search needs
@@ -202,35 +110,20 @@ same-length-3 : tie.Need-same-length-3
 same-length-3 c = search needs
 
 returns-7 : tie.Need-returns-7
-returns-7 c = let args′ =
-    c .before .before .before .before .before .before .before .before .before .before .before .before .before .before .before .before .before .before .before .before .before .before .before .before .before .args
-    in
-    let if1′ =
-    c .before .before .before .before .before .before .before .before .before .before .before .before .before .before .before .before .before .before .before .before .before .if1
-    in
-    let if2′ =
-    c .before .before .before .before .before .before .before .before .before .before .before .before .before .before .before .before .before .before .before .before .if2
-    in
-    let if3′ =
-    c .before .before .before .before .before .before .before .before .before .before .before .before .before .before .before .before .before .before .before .if3
-    in
-    let if4′ =
-    c .before .before .before .before .before .before .before .before .before .before .before .before .before .before .before .before .before .before .if4
-    in
-    let walk′ =
-    c .before .before .before .before .before .before .before .before .before .before .before .before .before .before .before .before .before .walk
-    in
-    let if5′ =
-    c .before .before .before .before .before .before .before .before .before .before .before .before .before .before .before .before .if5
-    in
-    let if6′ =
-    c .before .before .before .before .before .before .before .before .before .before .before .before .before .before .before .if6
-    in
-    let copy-entries′ = c .before .before .before .before .before .before .before .before .before .copy-entries in
-    let copy-bytes′ = c .before .before .before .before .before .before .copy-bytes in
+returns-7 c =
+    let args′ = c .before .before .before .before .before .before .before .before .before .before .before .before .before .before .before .before .before .before .before .before .before .before .before .before .before .before .before .args in
+    let if1′ = c .before .before .before .before .before .before .before .before .before .before .before .before .before .before .before .before .before .before .before .before .before .before .before .if1 in
+    let if2′ = c .before .before .before .before .before .before .before .before .before .before .before .before .before .before .before .before .before .before .before .before .before .before .if2 in
+    let if3′ = c .before .before .before .before .before .before .before .before .before .before .before .before .before .before .before .before .before .before .before .before .before .if3 in
+    let if4′ = c .before .before .before .before .before .before .before .before .before .before .before .before .before .before .before .before .before .before .before .before .if4 in
+    let walk′ = c .before .before .before .before .before .before .before .before .before .before .before .before .before .before .before .before .walk in
+    let if5′ = c .before .before .before .before .before .before .before .before .before .before .before .before .before .before .before .if5 in
+    let if6′ = c .before .before .before .before .before .before .before .before .before .before .before .before .before .before .if6 in
+    let copy-entries′ = c .before .before .before .before .before .before .before .before .before .before .before .copy-entries in
+    let copy-bytes′ = c .before .before .before .before .before .before .before .copy-bytes in
     let copy-bytes2′ = c .before .before .copy-bytes2 in
     read-good (args′ .sheet .now) (lent (args′ .table .now) (args′ .rows .now) (args′ .cols .now)) (wanted (args′ .table .now)
-    (args′ .rows .now) (args′ .cols .now) (if1′ .left) (if2′ .left) (if3′ .left)) (if4′ .left) (walk′ .result) (walk′ .ensures)
+    (args′ .rows .now) (args′ .cols .now) (if1′ .left) (if2′ .left) (if3′ .left)) (if4′ .left) (walk′ .result) _ _ _ (walk′ .ensures)
     (if5′ .left) (if6′ .left) _ _ _ (copy-entries′ .ensures) (copy-bytes′ .ensures) (copy-bytes2′ .ensures)
 
 pub read-sheet-spec : {M : Type 1} → statement M

@@ -1,31 +1,33 @@
 -- What the promises mean together, for the customer: about the promises, not about the code. Assumes nothing.
-use mathlib.Core.Path.{_≡_, refl, sym, _∙_, ap}
+use mathlib.Core.Path.{_≡_, sym, _∙_, ap}
 use mathlib.Core.Logic.{_⊎_, inl, inr}
 use mathlib.Core.Bool.{true, false}
 use mathlib.Core.List.{List, [], _∷_}
 use Prim.Native.Nat.{ℕ, _-_, _*_, _≤_, _<_}
-use native.Mathlib.Decide.{ℕ-discrete, decLe}
+use native.Mathlib.Decide.{ℕ-discrete}
 use native.Mathlib.Omega.{arith}
 use lib.IntN.{ℤ, pos, negℤ}
-use lib.ListN.{length, getD}
+use lib.ListN.{length}
 use lib.Seq.{ext-getD}
 use lib.Signed.{_≤ℤ_}
 use Rattle.theory.specs.Limits.{rows, order, handed}
 use Rattle.theory.specs.Lists.{nums, ints, columns, StarList}
 use Rattle.theory.specs.Table.{entry, Entries, WithinLimit}
-use Rattle.theory.specs.Canon.{Transversal, Canon, Simplest, Greatest, Misplaced, on-absent, exceeded, Solution, Balance}
+use Rattle.theory.specs.Canon.{Transversal, Canon, Greatest, Misplaced, on-absent, exceeded, Solution, Balance}
 use Rattle.theory.proofs.Signed.{signed, below-zero}
 use Rattle.theory.proofs.Duality.{balance}
 use Rattle.theory.proofs.Unique.{least-once}
 use Rattle.theory.proofs.Bounds.{addition-bound, head-high, head-low, sum-high, sum-low}
-use Rattle.orders.specs.Refusals.{Test, Lowest, Clear, gives, refuses}
+use Rattle.orders.specs.Refusals.{Test, _given-when_, Lowest, Clear, gives, refuses}
+use Rattle.orders.proofs.Refusals.{given-once, not-both}
 use Rattle.orders.proofs.Places.{within}
-use Rattle.handed.specs.Conditions.{OutOfSize, Fitting, TooLarge, WrongStars, NoTransversal, NoCanon, NotGreatest, _given-when_, basic, canon-more, canon-tests, star-more, star-tests}
+use Rattle.handed.specs.Conditions.{Fitting, TooLarge, WrongStars, NoTransversal, NoCanon, NotGreatest, basic, canon-more, canon-tests, star-more, star-tests}
+use Rattle.handed.proofs.Basics.{in-size, sized}
 use Rattle.canon.specs.Answers.{said, judged}
-use Rattle.canon.specs.Promises.{Routed, refused, answered, Solves, Lowers, Raises, Judges, declines, says-yes, says-no}
+use Rattle.canon.specs.Promises.{Routed, refused, answered, Solves, FromCanon, FromStars, Judges, declines, says-yes, says-no}
 use Rattle.canon.specs.declared.Answer.{Answer}
 use Rattle.canon.specs.declared.Verdict.{Verdict}
-use Rattle.canon.proofs.Unique.{One, solved-once, given-once, not-both}
+use Rattle.canon.proofs.Unique.{One, solved-once}
 
 -- a transversal of greatest sum is not misplaced
 well-placed : {n : ℕ} {a : ℕ → ℕ → ℤ} {σ : ℕ → ℕ} → Greatest n a σ → Misplaced n a σ → ⊥
@@ -50,13 +52,9 @@ pub record Kept (k : ℕ) (r : Answer) (adds adds′ stars stars′ : List ℕ) 
   pub heads-kept : heads′ ≡ heads
 
 module _ {n : ℕ} {t : List ℤ} {adds stars : List ℕ} {heads : List ℤ} (w : WellFormed n t adds stars heads) where
-  in-size : OutOfSize n → ⊥
-  in-size (inl e) = w .some e
-  in-size (inr gt) = omega (arith, w .few)
-
   -- of a call with these slices, and others of length n, the first three refusals do not apply
   later : (more : List Test) (ks : List ℕ) → Fitting n ks → (k : ℕ) → Lowest (basic n t ks more) k → Lowest more k
-  later more ks f k (inl p) = absurd (in-size (p .0))
+  later more ks f k (inl p) = absurd (in-size (w .some) (w .few) (p .0))
   later more ks f k (inr (x, inl p)) = absurd (p .0 (w .square, f))
   later more ks f k (inr (x, inr (y, inl p))) = absurd (p .0 (w .entries))
   later more ks f k (inr (x, inr (y, inr (z, l)))) = l
@@ -71,14 +69,14 @@ module _ {n : ℕ} {t : List ℤ} {adds stars : List ℕ} {heads : List ℤ} (w 
     pub refused-if-none : NoTransversal n t → Kept 6 r adds adds′ stars stars′ heads heads′
     refused-if-none none = go p
       where
-        only : (k : ℕ) → Lowest (_given-when_ 6 (NoTransversal n t) ∷ []) k → k ≡ 6
+        only : (k : ℕ) → Lowest (6 given-when NoTransversal n t ∷ []) k → k ≡ 6
         only k (inl q) = q .1
         only k (inr q) = absurd (q .1)
 
         go : Solves n t adds stars heads r adds′ stars′ heads′ → Kept 6 r adds adds′ stars stars′ heads heads′
         go (refused k l says x y z) =
             record {
-              refusal = says ∙ ap (λ (i : ℕ). refuses i []) (only k (later (_given-when_ 6 (NoTransversal n t) ∷ []) (length adds ∷ length stars ∷ length heads ∷ []) own k l));
+              refusal = says ∙ ap (λ (i : ℕ). refuses i []) (only k (later (6 given-when NoTransversal n t ∷ []) (length adds ∷ length stars ∷ length heads ∷ []) own k l));
               adds-kept = x;
               stars-kept = y;
               heads-kept = z;
@@ -88,12 +86,12 @@ module _ {n : ℕ} {t : List ℤ} {adds stars : List ℕ} {heads : List ℤ} (w 
     pub none-if-refused : (k : ℕ) (vs : List ℕ) → said r ≡ refuses k vs → NoTransversal n t
     none-if-refused k vs e = go p
       where
-        only : (k : ℕ) → Lowest (_given-when_ 6 (NoTransversal n t) ∷ []) k → NoTransversal n t
+        only : (k : ℕ) → Lowest (6 given-when NoTransversal n t ∷ []) k → NoTransversal n t
         only k (inl q) = q .0
         only k (inr q) = absurd (q .1)
 
         go : Solves n t adds stars heads r adds′ stars′ heads′ → NoTransversal n t
-        go (refused j l says x y z) = only j (later (_given-when_ 6 (NoTransversal n t) ∷ []) (length adds ∷ length stars ∷ length heads ∷ []) own j l)
+        go (refused j l says x y z) = only j (later (6 given-when NoTransversal n t ∷ []) (length adds ∷ length stars ∷ length heads ∷ []) own j l)
         go (answered s clear says la ls lh sol) = not-both s k vs (sym says ∙ e)
 
 -- "Otherwise the sum is the column maxima less the additions, no complete transversal has a greater one, and one reaches it exactly
@@ -136,7 +134,7 @@ module _ {n : ℕ} {t : List ℤ} {given adds stars : List ℕ} {heads : List �
     (w : WellFormed n t adds stars heads) where
   -- "Any canon within the stated limit .. leads to the same answer": the answer of route 1, in result and in lent memory
   pub canon-leads : {a b : List ℕ} {c : List ℤ} {q : Answer} {a′ b′ : List ℕ} {c′ : List ℤ} → Additions n given → Canon n (entry t n) (nums given)
-      → Lowers n t given adds stars heads r adds′ stars′ heads′ → WellFormed n t a b c → Solves n t a b c q a′ b′ c′
+      → FromCanon n t given adds stars heads r adds′ stars′ heads′ → WellFormed n t a b c → Solves n t a b c q a′ b′ c′
       → One r q adds′ a′ stars′ b′ heads′ c′
   canon-leads g canon (refused k l says x y z) v p = absurd (go (canon-left given w k g l))
     where
@@ -150,7 +148,7 @@ module _ {n : ℕ} {t : List ℤ} {given adds stars : List ℕ} {heads : List �
 
   -- "or any transversal of greatest sum"
   pub greatest-leads : {a b : List ℕ} {c : List ℤ} {q : Answer} {a′ b′ : List ℕ} {c′ : List ℤ} → StarList n given → Greatest n (entry t n) (columns given)
-      → Raises n t given adds stars heads r adds′ stars′ heads′ → WellFormed n t a b c → Solves n t a b c q a′ b′ c′
+      → FromStars n t given adds stars heads r adds′ stars′ heads′ → WellFormed n t a b c → Solves n t a b c q a′ b′ c′
       → One r q adds′ a′ stars′ b′ heads′ c′
   greatest-leads g top (refused k l says x y z) v p = absurd (go (star-left given w k g l))
     where
@@ -163,7 +161,7 @@ module _ {n : ℕ} {t : List ℤ} {given adds stars : List ℕ} {heads : List �
       solved-once adds′ a′ stars′ b′ heads′ c′ says says′ la la′ ls ls′ lh lh′ sol sol′
 
   -- "other starts are refused": additions that are no canon by 7, stars that are misplaced by 8, though a transversal exists
-  pub no-canon-refused : (σ : ℕ → ℕ) → Transversal n (entry t n) σ → Additions n given → NoCanon n t given → Lowers n t given adds stars heads r adds′ stars′ heads′
+  pub no-canon-refused : (σ : ℕ → ℕ) → Transversal n (entry t n) σ → Additions n given → NoCanon n t given → FromCanon n t given adds stars heads r adds′ stars′ heads′
       → Kept 7 r adds adds′ stars stars′ heads heads′
   no-canon-refused σ tr g none (refused k l says x y z) =
       record { refusal = says ∙ ap (λ (i : ℕ). refuses i []) (go (canon-left given w k g l)); adds-kept = x; stars-kept = y; heads-kept = z }
@@ -173,7 +171,7 @@ module _ {n : ℕ} {t : List ℤ} {given adds stars : List ℕ} {heads : List �
       go (inr q) = q .1
   no-canon-refused σ tr g none (answered s clear says la ls lh sol) = absurd (clear .1 .1 .1 .1 .1 .0 none)
 
-  pub misplaced-refused : (σ : ℕ → ℕ) → Transversal n (entry t n) σ → StarList n given → NotGreatest n t given → Raises n t given adds stars heads r adds′ stars′ heads′
+  pub misplaced-refused : (σ : ℕ → ℕ) → Transversal n (entry t n) σ → StarList n given → NotGreatest n t given → FromStars n t given adds stars heads r adds′ stars′ heads′
       → Kept 8 r adds adds′ stars stars′ heads heads′
   misplaced-refused σ tr g wrong (refused k l says x y z) =
       record { refusal = says ∙ ap (λ (i : ℕ). refuses i []) (go (star-left given w k g l)); adds-kept = x; stars-kept = y; heads-kept = z }
@@ -185,13 +183,13 @@ module _ {n : ℕ} {t : List ℤ} {given adds stars : List ℕ} {heads : List �
 
 -- and nothing else leads: an answer of route 2 came from a canon within the limit, one of route 3 from a transversal of greatest sum
 pub only-canons-lead : {n : ℕ} {t : List ℤ} (given : List ℕ) {adds stars : List ℕ} {heads : List ℤ} {r : Answer} {adds′ stars′ : List ℕ} {heads′ : List ℤ} {s : ℤ}
-    → Lowers n t given adds stars heads r adds′ stars′ heads′ → said r ≡ gives s
+    → FromCanon n t given adds stars heads r adds′ stars′ heads′ → said r ≡ gives s
     → (TooLarge given → ⊥) × (NoCanon n t given → ⊥)
 only-canons-lead given {s = s} (refused k l says x y z) e = not-both s k [] (sym e ∙ says)
 only-canons-lead given (answered z clear says la ls lh sol) e = (clear .1 .1 .1 .0, clear .1 .1 .1 .1 .1 .0)
 
 pub only-greatest-lead : {n : ℕ} {t : List ℤ} (given : List ℕ) {adds stars : List ℕ} {heads : List ℤ} {r : Answer} {adds′ stars′ : List ℕ} {heads′ : List ℤ} {s : ℤ}
-    → Raises n t given adds stars heads r adds′ stars′ heads′ → said r ≡ gives s
+    → FromStars n t given adds stars heads r adds′ stars′ heads′ → said r ≡ gives s
     → (WrongStars n given → ⊥) × (NotGreatest n t given → ⊥)
 only-greatest-lead given {s = s} (refused k l says x y z) e = not-both s k [] (sym e ∙ says)
 only-greatest-lead given (answered z clear says la ls lh sol) e = (clear .1 .1 .1 .0, clear .1 .1 .1 .1 .1 .0)
@@ -232,9 +230,6 @@ fitting-given : {n : ℕ} (t : List ℤ) (given : List ℕ) → Clear (canon-tes
 fitting-given {n} t given clear =
     elim (ℕ-discrete (length given) n) [ yes e ↦ e | no ne ↦ absurd (clear .1 .0 (λ f. ne (f .1 .0))) ]
 
-in-rows : {n : ℕ} → (OutOfSize n → ⊥) → n ≤ rows
-in-rows {n} f = elim (decLe n rows) [ yes h ↦ h | no g ↦ absurd (f (inr (omega arith))) ]
-
 module _ {n : ℕ} {t : List ℤ} {given : List ℕ} {v : Verdict} {adds stars : List ℕ} {heads : List ℤ} {r : Answer} {adds′ stars′ : List ℕ} {heads′ : List ℤ} {s : ℤ}
     (p : Solves n t adds stars heads r adds′ stars′ heads′) (e : said r ≡ gives s) where
   pub yes-only : Judges n t given v → judged v ≡ gives true → given ≡ adds′
@@ -261,7 +256,7 @@ yes-to-these {n} {t} {v} {adds} {stars} {heads} {r} {adds′} {stars′} {heads�
     declined (inr (x, inr (y, inl p))) = clear .1 .1 .0 (p .0)
     declined (inr (x, inr (y, inr (u, inl p)))) =
         clear .1 .0 (λ f. clear .1 .1 .0 (λ all. p .0 (λ i hi.
-        omega (arith, found-within t adds′ stars′ heads′ (in-rows (clear .0)) (f .0) all sol .addition-most i (omega (arith, la))))))
+        omega (arith, found-within t adds′ stars′ heads′ (sized (clear .0) .1) (f .0) all sol .addition-most i (omega (arith, la))))))
     declined (inr (x, inr (y, inr (u, inr (w, inl p))))) = p .0 (columns stars′) (sol .stars .of-maxima .transversal)
     declined (inr (x, inr (y, inr (u, inr (w, inr (q, inl p)))))) = p .0 (sol .additions .canon)
     declined (inr (x, inr (y, inr (u, inr (w, inr (q, inr p)))))) = p .1

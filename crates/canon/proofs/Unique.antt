@@ -1,19 +1,17 @@
 -- No second answer and no second memory meets the promise of a call. Assumes nothing.
 use mathlib.Core.Path.{_≡_, refl, sym, _∙_, ap}
 use mathlib.Core.List.{List, [], _∷_}
-use mathlib.Core.Bool.{Bool, true, false}
-use Prim.Native.Nat.{ℕ, _+_, _-_, _≤_, _<_}
+use mathlib.Core.Bool.{true, false}
+use Prim.Native.Nat.{ℕ, _<_}
 use native.Mathlib.Omega.{arith}
 use lib.IntN.{ℤ, pos}
 use lib.ListN.{length, getD}
 use lib.Seq.{ext-getD}
 use Rattle.theory.specs.Lists.{nums, ints, columns, StarList}
-use Rattle.theory.specs.Table.{entry}
-use Rattle.theory.specs.Canon.{Simplest, Solution}
+use Rattle.theory.specs.Canon.{Solution}
 use Rattle.theory.proofs.Unique.{solution-once}
-use Rattle.orders.specs.Refusals.{numberOf, valuesOf, Test, Lowest, Clear, Said, gives, refuses}
-use Rattle.orders.specs.declared.Refusal.{Refusal}
-use Rattle.orders.proofs.Refusals.{lowest-once, lowest-clear, refusal-once}
+use Rattle.orders.specs.Refusals.{numberOf, valuesOf, Test, gives}
+use Rattle.orders.proofs.Refusals.{lowest-clear, refused-once, refusal-once, given-once, not-both}
 use Rattle.handed.specs.Conditions.{canon-tests}
 use Rattle.canon.specs.Answers.{said, judged}
 use Rattle.canon.specs.Promises.{Routed, refused, answered, Judges, declines, says-yes, says-no}
@@ -23,25 +21,11 @@ use Rattle.canon.specs.declared.Verdict.{Verdict}
 use Rattle.canon.specs.declared.Verdict.the-variants as verdict
 
 -- ---- an answer is told by what it says
-pub given-once : {X : Type 0} (x y : X) → _≡_ {A = Said X} (gives x) (gives y) → x ≡ y
-given-once x y e = cc
-
-number-once : {X : Type 0} (j k : ℕ) (us vs : List ℕ) → _≡_ {A = Said X} (refuses j us) (refuses k vs) → j ≡ k
-number-once j k us vs e = cc
-
-values-once : {X : Type 0} (j k : ℕ) (us vs : List ℕ) → _≡_ {A = Said X} (refuses j us) (refuses k vs) → us ≡ vs
-values-once j k us vs e = cc
-
--- a value is no refusal
-pub not-both {ℓ} : {A : Type ℓ} {X : Type 0} (x : X) (k : ℕ) (vs : List ℕ) → _≡_ {A = Said X} (gives x) (refuses k vs) → A
-not-both x k vs e = absurd (let z : _≡_ {A = ℕ} 0 1 = cc in omega arith)
-
 pub answer-once : (r s : Answer) → said r ≡ said s → r ≡ s
 answer-once (Sum x) (Sum y) e = ap Sum (given-once x y e)
 answer-once (Sum x) (Refused q) e = not-both x (numberOf q) (valuesOf q) e
 answer-once (Refused p) (Sum y) e = not-both y (numberOf p) (valuesOf p) (sym e)
-answer-once (Refused p) (Refused q) e =
-    ap Refused (refusal-once p q (number-once {X = ℤ} (numberOf p) (numberOf q) (valuesOf p) (valuesOf q) e) (values-once {X = ℤ} (numberOf p) (numberOf q) (valuesOf p) (valuesOf q) e))
+answer-once (Refused p) (Refused q) e = ap Refused (refusal-once p q e)
 
 -- ---- routes
 -- two lists of one length that agree below it are one
@@ -80,7 +64,7 @@ pub routed-once : {tests : List Test} {n : ℕ} {t : List ℤ} {adds stars : Lis
     → Routed tests n t adds stars heads r a c e → Routed tests n t adds stars heads s b d f → One r s a b c d e f
 routed-once {tests} {r = r} {s = s} (refused j p u x y z) (refused k q v x′ y′ z′) =
     record {
-      answer = answer-once r s (u ∙ ap (λ (i : ℕ). refuses i []) (lowest-once tests j k p q) ∙ sym v);
+      answer = answer-once r s (refused-once tests p u q v);
       same-adds = x ∙ sym x′;
       same-stars = y ∙ sym y′;
       same-heads = z ∙ sym z′;
@@ -100,9 +84,7 @@ verdict-once verdict.No verdict.No e = refl
 verdict-once verdict.No (verdict.Refused q) e = not-both false (numberOf q) (valuesOf q) e
 verdict-once (verdict.Refused p) verdict.Yes e = not-both true (numberOf p) (valuesOf p) (sym e)
 verdict-once (verdict.Refused p) verdict.No e = not-both false (numberOf p) (valuesOf p) (sym e)
-verdict-once (verdict.Refused p) (verdict.Refused q) e =
-    ap verdict.Refused
-    (refusal-once p q (number-once {X = Bool} (numberOf p) (numberOf q) (valuesOf p) (valuesOf q) e) (values-once {X = Bool} (numberOf p) (numberOf q) (valuesOf p) (valuesOf q) e))
+verdict-once (verdict.Refused p) (verdict.Refused q) e = ap verdict.Refused (refusal-once p q e)
 
 -- the promise of the yes-or-no determines its answer
 module _ (n : ℕ) (t : List ℤ) (given : List ℕ) where
@@ -110,7 +92,7 @@ module _ (n : ℕ) (t : List ℤ) (given : List ℕ) where
   tests = canon-tests n t given (length given ∷ [])
 
   pub judges-once : {v w : Verdict} → Judges n t given v → Judges n t given w → v ≡ w
-  judges-once {v} {w} (declines j p u) (declines k q x) = verdict-once v w (u ∙ ap (λ (i : ℕ). refuses i []) (lowest-once tests j k p q) ∙ sym x)
+  judges-once {v} {w} (declines j p u) (declines k q x) = verdict-once v w (refused-once tests p u q x)
   judges-once (declines j p u) (says-yes q x s) = absurd (lowest-clear tests j p q)
   judges-once (declines j p u) (says-no q x s) = absurd (lowest-clear tests j p q)
   judges-once (says-yes q x s) (declines j p u) = absurd (lowest-clear tests j p q)

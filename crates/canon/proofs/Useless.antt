@@ -3,26 +3,25 @@
 use mathlib.Core.Path.{_≡_, refl, sym, _∙_, ap}
 use mathlib.Core.Bool.{true, false}
 use mathlib.Core.List.{List, [], _∷_}
-use Prim.Native.Nat.{ℕ, suc, _*_, _≤_, _<_}
+use Prim.Native.Nat.{ℕ}
 use native.Mathlib.Omega.{arith}
 use lib.IntN.{ℤ, pos, negℤ}
 use lib.ListN.{length}
-use Rattle.theory.specs.Limits.{rows}
 use Rattle.theory.specs.Lists.{nums, ints, columns, StarList}
 use Rattle.theory.specs.Table.{entry}
-use Rattle.theory.specs.Canon.{Canon, Simplest, Solution}
-use Rattle.theory.specs.Cases.{Right, pendulum}
+use Rattle.theory.specs.Canon.{Solution}
+use Rattle.theory.specs.Cases.{pendulum}
 use Rattle.theory.proofs.Cases.{cases-right}
-use Rattle.orders.specs.Refusals.{gives, refuses}
+use Rattle.orders.specs.Refusals.{gives}
 use Rattle.orders.specs.declared.Refusal.{Refusal}
-use Rattle.canon.specs.Answers.{said, judged}
-use Rattle.canon.specs.Promises.{Routed, refused, answered, Solves, Lowers, Raises, Judges, declines, says-yes, says-no}
+use Rattle.orders.proofs.Refusals.{not-both}
+use Rattle.canon.specs.Answers.{said}
+use Rattle.canon.specs.Promises.{refused, answered, Solves, FromCanon, Judges, declines, says-yes, says-no}
 use Rattle.canon.specs.declared.Answer.{Answer}
 use Rattle.canon.specs.declared.Answer.the-variants.{Sum, Refused}
-use Rattle.canon.specs.declared.Verdict.{Verdict}
 use Rattle.canon.specs.declared.Verdict.the-variants as verdict
-use Rattle.canon.proofs.Unique.{One, solved-once, not-both}
-use Rattle.canon.proofs.Theorems.{WellFormed, Additions, none-if-refused, canon-leads}
+use Rattle.canon.proofs.Unique.{One, solved-once}
+use Rattle.canon.proofs.Theorems.{WellFormed, none-if-refused}
 
 -- a known solution is what the promise of route 1 leaves open to a call with slices of the wanted length: nothing else
 determined : {n : ℕ} {t : List ℤ} {adds stars : List ℕ} {heads : List ℤ} {r : Answer} {adds′ stars′ : List ℕ} {heads′ : List ℤ} (l s : List ℕ) (h : List ℤ) (z : ℤ)
@@ -81,7 +80,7 @@ module _ {adds stars : List ℕ} {heads : List ℤ} (la : length adds ≡ 2) (ls
 -- ---- the pendulum from the canon 4 4 6, and the yes-or-no on `-3`
 -- "agreeing routes that all return their input by 2, since each answer is measured against the least canon itself"
 pub returning-the-input-is-shut-out : {adds stars : List ℕ} {heads : List ℤ} {r : Answer} {adds′ stars′ : List ℕ} {heads′ : List ℤ} {s : ℤ}
-    → said r ≡ gives s → adds′ ≡ 4 ∷ 4 ∷ 6 ∷ [] → Lowers 3 pendulum (4 ∷ 4 ∷ 6 ∷ []) adds stars heads r adds′ stars′ heads′ → ⊥
+    → said r ≡ gives s → adds′ ≡ 4 ∷ 4 ∷ 6 ∷ [] → FromCanon 3 pendulum (4 ∷ 4 ∷ 6 ∷ []) adds stars heads r adds′ stars′ heads′ → ⊥
 returning-the-input-is-shut-out {s = s} e same (refused k l says x y z) = not-both s k [] (sym e ∙ says)
 returning-the-input-is-shut-out {adds′ = adds′} e same (answered z clear says la ls lh sol) =
     let c = cases-right .1 .1 .1 .1 .1 .1 .1 .1 .1 .1 .0 in

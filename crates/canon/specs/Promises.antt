@@ -29,13 +29,13 @@ abbrev pub Solves : ℕ → List ℤ → List ℕ → List ℕ → List ℤ → 
 Solves n t adds stars heads = Routed (table-tests n t (length adds ∷ length stars ∷ length heads ∷ [])) n t adds stars heads
 
 -- route 2, from additions that are a canon
-abbrev pub Lowers : ℕ → List ℤ → List ℕ → List ℕ → List ℕ → List ℤ → Answer → List ℕ → List ℕ → List ℤ → Type 0
-Lowers n t given adds stars heads =
+abbrev pub FromCanon : ℕ → List ℤ → List ℕ → List ℕ → List ℕ → List ℤ → Answer → List ℕ → List ℕ → List ℤ → Type 0
+FromCanon n t given adds stars heads =
     Routed (canon-tests n t given (length given ∷ length adds ∷ length stars ∷ length heads ∷ [])) n t adds stars heads
 
 -- route 3, from a transversal of greatest sum
-abbrev pub Raises : ℕ → List ℤ → List ℕ → List ℕ → List ℕ → List ℤ → Answer → List ℕ → List ℕ → List ℤ → Type 0
-Raises n t given adds stars heads =
+abbrev pub FromStars : ℕ → List ℤ → List ℕ → List ℕ → List ℕ → List ℤ → Answer → List ℕ → List ℕ → List ℤ → Type 0
+FromStars n t given adds stars heads =
     Routed (star-tests n t given (length given ∷ length adds ∷ length stars ∷ length heads ∷ [])) n t adds stars heads
 
 -- The yes-or-no "takes route 2's input and says yes exactly when the additions are the simplest canon". It is lent nothing that it

@@ -1,4 +1,4 @@
-ghost use Rattle.canon.specs.Promises.{Solves, Lowers, Raises, Judges};
+ghost use Rattle.canon.specs.Promises.{Solves, FromCanon, FromStars, Judges};
 use growth::grow;
 use handed::FirstTests;
 use handed::additions_stand;
@@ -56,7 +56,7 @@ pub fn from_canon(
     stars: &mut [u32],
     heads: &mut [i32],
 ) -> Answer
-    ensures { λ r. ⌜ Lowers n (now (table .entry)) (now (given .entry)) (now (adds .entry)) (now (stars .entry)) (now (heads .entry)) r (now (adds .exit)) (now (stars .exit)) (now (heads .exit)) ⌝ }
+    ensures { λ r. ⌜ FromCanon n (now (table .entry)) (now (given .entry)) (now (adds .entry)) (now (stars .entry)) (now (heads .entry)) r (now (adds .exit)) (now (stars .exit)) (now (heads .exit)) ⌝ }
 {
     let first = tested(n, table, given.len(), adds.len(), stars.len(), heads.len());
     if let FirstTests::Refused(refusal) = first {
@@ -87,7 +87,7 @@ pub fn from_stars(
     stars: &mut [u32],
     heads: &mut [i32],
 ) -> Answer
-    ensures { λ r. ⌜ Raises n (now (table .entry)) (now (given .entry)) (now (adds .entry)) (now (stars .entry)) (now (heads .entry)) r (now (adds .exit)) (now (stars .exit)) (now (heads .exit)) ⌝ }
+    ensures { λ r. ⌜ FromStars n (now (table .entry)) (now (given .entry)) (now (adds .entry)) (now (stars .entry)) (now (heads .entry)) r (now (adds .exit)) (now (stars .exit)) (now (heads .exit)) ⌝ }
 {
     let first = tested(n, table, given.len(), adds.len(), stars.len(), heads.len());
     if let FirstTests::Refused(refusal) = first {

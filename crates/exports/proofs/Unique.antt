@@ -13,7 +13,7 @@ use Rattle.reader.specs.Promise.{ReadPromise, Lent}
 use Rattle.reader.specs.Promise as reader
 use Rattle.reader.specs.declared.Read.{Read}
 use Rattle.reader.proofs.Unique.{read-once}
-use Rattle.writer.specs.Promise.{WritePromise, Handed}
+use Rattle.writer.specs.Promise.{WritePromise, Model}
 use Rattle.writer.specs.Promise as writer
 use Rattle.writer.specs.declared.Written.{Written}
 use Rattle.writer.proofs.Unique.{write-once}
@@ -21,7 +21,7 @@ use Rattle.printing.specs.Promise.{PrintPromise}
 use Rattle.printing.specs.Promise as printing
 use Rattle.printing.specs.declared.Printed.{Printed}
 use Rattle.printing.proofs.Unique.{print-once}
-use Rattle.exports.specs.Told.{Tells, gave, kept-back, itself, bit, Told, spoken, TellsRead, read, at-line, refused, ToldRead}
+use Rattle.exports.specs.Told.{Tells, gave, kept-back, itself, bit, Told, TellsRead, read, at-line, refused, ToldRead}
 
 -- what an answer is returned as
 abbrev number : {X : Type 0} → Said X → ℕ
@@ -62,9 +62,9 @@ pub verdict-once : {n : ℕ} {t : List ℤ} {given : List ℕ} {r q yes after ot
 verdict-once {n} {t} {given} f g = told-once f g (judges-once n t given (f .promised) (g .promised))
 
 -- The writer: what is returned, the length and the room.
-pub writing-once : {h : Handed} {o p p′ : List ℕ} {r q length after other : ℕ}
-    → Told (λ (x : Written). WritePromise h o p (writer.says x)) (λ (x : Written). spoken (writer.says x)) itself r length after
-    → Told (λ (x : Written). WritePromise h o p′ (writer.says x)) (λ (x : Written). spoken (writer.says x)) itself q length other
+pub writing-once : {h : Model} {o p p′ : List ℕ} {r q length after other : ℕ}
+    → Told (λ (x : Written). WritePromise h o p (writer.says x)) writer.says itself r length after
+    → Told (λ (x : Written). WritePromise h o p′ (writer.says x)) writer.says itself q length other
     → (r ≡ q) × (after ≡ other) × (p ≡ p′)
 writing-once {h} {o} {p} {p′} f g =
     let (e, m) = write-once h o p p′ (f .answer) (g .answer) (f .promised) (g .promised) in
@@ -98,15 +98,15 @@ tells-read-is {n = n} {line = line} (refused k e r a b) = (r ∙ sym (ap number 
 
 -- The reader: what is returned, N, the line, the table and the labels.
 pub reading-once : {s : List ℕ} {m p p′ : Lent} {r q n line n′ line′ n″ line″ : ℕ}
-    → ToldRead (λ (x : Read). ReadPromise s m p (reader.says x)) (λ (x : Read). spoken (reader.says x)) r n line n′ line′
-    → ToldRead (λ (x : Read). ReadPromise s m p′ (reader.says x)) (λ (x : Read). spoken (reader.says x)) q n line n″ line″
+    → ToldRead (λ (x : Read). ReadPromise s m p (reader.says x)) reader.says r n line n′ line′
+    → ToldRead (λ (x : Read). ReadPromise s m p′ (reader.says x)) reader.says q n line n″ line″
     → (r ≡ q) × (n′ ≡ n″) × (line′ ≡ line″) × (p ≡ p′)
 reading-once {s} {m} {p} {p′} {n = n} {line = line} f g =
     let (e, w) = read-once s m p p′ (f .answer) (g .answer) (f .promised) (g .promised) in
     let (a, b, c) = tells-read-is (f .told) in
     let (a′, b′, c′) = tells-read-is (g .told) in (
-      a ∙ ap (λ (x : Read). number (spoken (reader.says x))) e ∙ sym a′,
-      b ∙ ap (λ (x : Read). n-held n (spoken (reader.says x))) e ∙ sym b′,
-      c ∙ ap (λ (x : Read). line-held line (spoken (reader.says x))) e ∙ sym c′,
+      a ∙ ap (λ (x : Read). number (reader.says x)) e ∙ sym a′,
+      b ∙ ap (λ (x : Read). n-held n (reader.says x)) e ∙ sym b′,
+      c ∙ ap (λ (x : Read). line-held line (reader.says x)) e ∙ sym c′,
       w,
     )

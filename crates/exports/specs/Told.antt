@@ -4,8 +4,6 @@ use mathlib.Core.Bool.{Bool, true, false}
 use mathlib.Core.List.{List, [], _∷_}
 use Prim.Native.Nat.{ℕ}
 use Rattle.orders.specs.Refusals.{Said, gives, refuses}
-use Rattle.sheet.specs.Answer.{Answer}
-use Rattle.sheet.specs.Answer as sheet
 
 -- "the return value is 0 or document 01's refusal number", and a single result is "written only on success": r is what is returned,
 -- and before and after are what the single result holds before and after the call, where a value x is written as code x
@@ -27,11 +25,6 @@ pub record Told {Answer X Y : Type 0} (promise : Answer → Type 0) (said : Answ
   pub answer : Answer
   pub promised : promise answer
   pub told : Tells code (said answer) r before after
-
--- The calls on sheets say what they answer in a type of their own.
-abbrev pub spoken : Answer → Said ℕ
-spoken (sheet.gives n) = gives n
-spoken (sheet.refuses k values) = refuses k values
 
 -- The reader has two single results: N, "written only on success", and the line, "written for refusal 10 alone".
 pub data TellsRead (a : Said ℕ) (r n line n′ line′ : ℕ) : Type 0 where

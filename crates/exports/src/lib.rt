@@ -1,17 +1,17 @@
 ghost use Rattle.canon.specs.Answers.{said, judged};
-ghost use Rattle.canon.specs.Promises.{Solves, Lowers, Raises, Judges};
+ghost use Rattle.canon.specs.Promises.{Solves, FromCanon, FromStars, Judges};
 ghost use Rattle.canon.specs.declared.Verdict.{Verdict};
 ghost use Rattle.canon.specs.declared.Answer.{Answer};
 ghost use Rattle.reader.specs.Promise.{ReadPromise, lent};
 ghost use Rattle.reader.specs.Promise as reader;
 ghost use Rattle.reader.specs.declared.Read.{Read};
-ghost use Rattle.writer.specs.Promise.{WritePromise, handed};
+ghost use Rattle.writer.specs.Promise.{WritePromise, model};
 ghost use Rattle.writer.specs.Promise as writer;
 ghost use Rattle.writer.specs.declared.Written.{Written};
 ghost use Rattle.printing.specs.Promise.{PrintPromise};
 ghost use Rattle.printing.specs.Promise as printing;
 ghost use Rattle.printing.specs.declared.Printed.{Printed};
-ghost use Rattle.exports.specs.Told.{Told, ToldRead, itself, bit, spoken};
+ghost use Rattle.exports.specs.Told.{Told, ToldRead, itself, bit};
 use canon::Answer;
 use canon::Verdict;
 use orders::Refusal;
@@ -53,7 +53,7 @@ pub extern "C" fn canon_from_canon(
     heads: &mut [i32],
     sum: &mut i32,
 ) -> u32
-    ensures { λ r. ⌜ Told (λ (a : Answer). Lowers n (now (table .entry)) (now (given .entry)) (now (adds .entry)) (now (stars .entry)) (now (heads .entry)) a (now (adds .exit)) (now (stars .exit)) (now (heads .exit))) said itself r (now (sum .entry)) (now (sum .exit)) ⌝ }
+    ensures { λ r. ⌜ Told (λ (a : Answer). FromCanon n (now (table .entry)) (now (given .entry)) (now (adds .entry)) (now (stars .entry)) (now (heads .entry)) a (now (adds .exit)) (now (stars .exit)) (now (heads .exit))) said itself r (now (sum .entry)) (now (sum .exit)) ⌝ }
 {
     let answer = canon::from_canon(n, table, given, adds, stars, heads);
     match answer {
@@ -76,7 +76,7 @@ pub extern "C" fn canon_from_stars(
     heads: &mut [i32],
     sum: &mut i32,
 ) -> u32
-    ensures { λ r. ⌜ Told (λ (a : Answer). Raises n (now (table .entry)) (now (given .entry)) (now (adds .entry)) (now (stars .entry)) (now (heads .entry)) a (now (adds .exit)) (now (stars .exit)) (now (heads .exit))) said itself r (now (sum .entry)) (now (sum .exit)) ⌝ }
+    ensures { λ r. ⌜ Told (λ (a : Answer). FromStars n (now (table .entry)) (now (given .entry)) (now (adds .entry)) (now (stars .entry)) (now (heads .entry)) a (now (adds .exit)) (now (stars .exit)) (now (heads .exit))) said itself r (now (sum .entry)) (now (sum .exit)) ⌝ }
 {
     let answer = canon::from_stars(n, table, given, adds, stars, heads);
     match answer {
@@ -117,7 +117,7 @@ pub extern "C" fn canon_read_sheet(
     n: &mut usize,
     line: &mut usize,
 ) -> u32
-    ensures { λ r. ⌜ ToldRead (λ (a : Read). ReadPromise (now (sheet .entry)) (lent (now (table .entry)) (now (rows .entry)) (now (cols .entry))) (lent (now (table .exit)) (now (rows .exit)) (now (cols .exit))) (reader.says a)) (λ (a : Read). spoken (reader.says a)) r (now (n .entry)) (now (line .entry)) (now (n .exit)) (now (line .exit)) ⌝ }
+    ensures { λ r. ⌜ ToldRead (λ (a : Read). ReadPromise (now (sheet .entry)) (lent (now (table .entry)) (now (rows .entry)) (now (cols .entry))) (lent (now (table .exit)) (now (rows .exit)) (now (cols .exit))) (reader.says a)) reader.says r (now (n .entry)) (now (line .entry)) (now (n .exit)) (now (line .exit)) ⌝ }
 {
     let answer = reader::read_sheet(sheet, table, rows, cols);
     match answer {
@@ -145,7 +145,7 @@ pub extern "C" fn canon_write_sheet(
     out: &mut [u8],
     length: &mut usize,
 ) -> u32
-    ensures { λ r. ⌜ Told (λ (a : Written). WritePromise (handed n (now (table .entry)) (now (rows .entry)) (now (cols .entry))) (now (out .entry)) (now (out .exit)) (writer.says a)) (λ (a : Written). spoken (writer.says a)) itself r (now (length .entry)) (now (length .exit)) ⌝ }
+    ensures { λ r. ⌜ Told (λ (a : Written). WritePromise (model n (now (table .entry)) (now (rows .entry)) (now (cols .entry))) (now (out .entry)) (now (out .exit)) (writer.says a)) writer.says itself r (now (length .entry)) (now (length .exit)) ⌝ }
 {
     let answer = writer::write_sheet(n, table, rows, cols, out);
     match answer {

@@ -1,18 +1,19 @@
--- The first three refusals, one test after the other. Assumes nothing.
+-- The first three refusals, one test after the other, and what holds where they do not apply. Assumes nothing.
 use mathlib.Core.Path.{_≡_, refl, sym}
-use mathlib.Core.Logic.{_⊎_, inl, inr}
-use mathlib.Core.List.{List, [], _∷_}
-use Prim.Native.Nat.{ℕ, _*_, _≤_, _<_}
+use mathlib.Core.Logic.{inl, inr}
+use mathlib.Core.List.{List, []}
+use Prim.Native.Nat.{ℕ, _+_, _*_, _≤_}
+use native.Mathlib.Decide.{ℕ-discrete, decLe}
 use native.Mathlib.Omega.{arith}
-use lib.IntN.{ℤ}
-use lib.ListN.{length}
+use lib.IntN.{ℤ, pos}
+use lib.ListN.{length, getD}
 use Rattle.theory.specs.Limits.{rows, order}
-use Rattle.theory.specs.Table.{Entries}
-use Rattle.orders.specs.Places.{Square}
-use Rattle.handed.specs.Conditions.{OutOfSize, Fitting, WrongLength, WrongEntry, basic}
+use Rattle.theory.specs.Table.{Order, Entries}
+use Rattle.theory.proofs.Signed.{up, dn, signed}
 use Rattle.orders.specs.Refusals.{numberOf, valuesOf, Lowest}
 use Rattle.orders.specs.declared.Refusal.{Refusal}
 use Rattle.orders.specs.declared.Refusal.the-variants.{Size, Length, Entry}
+use Rattle.handed.specs.Conditions.{OutOfSize, Fitting, WrongLength, WrongEntry, basic}
 use Rattle.handed.specs.Handed.{Basic}
 use Rattle.handed.specs.declared.FirstTests.the-variants.{Passed, Refused}
 
@@ -20,6 +21,26 @@ use Rattle.handed.specs.declared.FirstTests.the-variants.{Passed, Refuse
 pub in-size : {n : ℕ} → (n ≡ 0 → ⊥) → n ≤ rows → OutOfSize n → ⊥
 in-size ne le (inl e) = ne e
 in-size ne le (inr gt) = omega arith
+
+-- and the other way: a size to which refusal 1 does not apply
+pub sized : {n : ℕ} → (OutOfSize n → ⊥) → (1 ≤ n) × (n ≤ rows)
+sized {n} f = (
+  elim (ℕ-discrete n 0) [ yes e ↦ absurd (f (inl e)) | no ne ↦ omega arith ],
+  elim (decLe n rows) [ yes h ↦ h | no g ↦ absurd (f (inr (omega arith))) ],
+)
+
+-- whether a number is an order is decided by two comparisons
+order-known : (v : ℤ) → Dec (Order order v)
+order-known v = go (decLe (dn v) (order + up v)) (decLe (up v) (order + dn v))
+  where
+    go : Dec (dn v ≤ order + up v) → Dec (up v ≤ order + dn v) → Dec (Order order v)
+    go (yes l) (yes h) = yes (record { low = omega (arith, signed); high = omega (arith, signed) })
+    go (no f) h = no (λ o. f (omega (arith, signed, o .low)))
+    go (yes l) (no f) = no (λ o. f (omega (arith, signed, o .high)))
+
+-- so entries to which refusal 3 does not apply are each absent or an order
+pub entries-known : (t : List ℤ) → (WrongEntry t → ⊥) → Entries order t
+entries-known t f k h p = elim (order-known (getD t k (pos 0))) [ yes o ↦ o | no n ↦ absurd (f (λ all. n (all k h p))) ]
 
 module _ {n : ℕ} {t : List ℤ} {ks : List ℕ} where
   -- a refusal that is the lowest, and one that is none

@@ -1,5 +1,6 @@
 -- Document 01's "Refusal numbers", the column "Given exactly when", as far as table, additions and stars go: one definition for
--- each number. The tests of a call stand in rising order.
+-- each number (9 and 10 stand with the reading of a sheet, 11 and 12 with the writer's promise). The tests of a call stand in
+-- rising order.
 use mathlib.Core.Path.{_≡_}
 use mathlib.Core.Logic.{_⊎_}
 use mathlib.Core.List.{List, [], _∷_}
@@ -10,7 +11,7 @@ use Rattle.theory.specs.Limits.{rows, order, handed}
 use Rattle.theory.specs.Lists.{nums, columns, StarList}
 use Rattle.theory.specs.Table.{entry, Entries}
 use Rattle.theory.specs.Canon.{Transversal, Canon, Misplaced}
-use Rattle.orders.specs.Refusals.{Test}
+use Rattle.orders.specs.Refusals.{Test, _given-when_}
 
 -- 1: "N is 0 or above 32"
 abbrev pub OutOfSize : ℕ → Type 0
@@ -49,30 +50,24 @@ NoCanon n t l = Canon n (entry t n) (nums l) → ⊥
 abbrev pub NotGreatest : ℕ → List ℤ → List ℕ → Type 0
 NotGreatest n t s = Misplaced n (entry t n) (columns s)
 
--- a number with its condition
-abbrev pub _given-when_ : ℕ → Type 0 → Test
-_given-when_ k P = record { number = k; applies = P }
-
 -- the first three, which concern every call on a table
 abbrev pub basic : ℕ → List ℤ → List ℕ → List Test → List Test
-basic n t ks more = _given-when_ 1 (OutOfSize n) ∷ _given-when_ 2 (WrongLength n t ks) ∷ _given-when_ 3 (WrongEntry t) ∷ more
+basic n t ks more = 1 given-when OutOfSize n ∷ 2 given-when WrongLength n t ks ∷ 3 given-when WrongEntry t ∷ more
 
 -- route 1
 abbrev pub table-tests : ℕ → List ℤ → List ℕ → List Test
-table-tests n t ks = basic n t ks (_given-when_ 6 (NoTransversal n t) ∷ [])
+table-tests n t ks = basic n t ks (6 given-when NoTransversal n t ∷ [])
 
 -- route 2 and the yes-or-no: "never give 5 or 8"
 abbrev pub canon-more : ℕ → List ℤ → List ℕ → List Test
-canon-more n t given =
-    _given-when_ 4 (TooLarge given) ∷ _given-when_ 6 (NoTransversal n t) ∷ _given-when_ 7 (NoCanon n t given) ∷ []
+canon-more n t given = 4 given-when TooLarge given ∷ 6 given-when NoTransversal n t ∷ 7 given-when NoCanon n t given ∷ []
 
 abbrev pub canon-tests : ℕ → List ℤ → List ℕ → List ℕ → List Test
 canon-tests n t given ks = basic n t ks (canon-more n t given)
 
 -- route 3: "never gives 4 or 7"
 abbrev pub star-more : ℕ → List ℤ → List ℕ → List Test
-star-more n t given =
-    _given-when_ 5 (WrongStars n given) ∷ _given-when_ 6 (NoTransversal n t) ∷ _given-when_ 8 (NotGreatest n t given) ∷ []
+star-more n t given = 5 given-when WrongStars n given ∷ 6 given-when NoTransversal n t ∷ 8 given-when NotGreatest n t given ∷ []
 
 abbrev pub star-tests : ℕ → List ℤ → List ℕ → List ℕ → List Test
 star-tests n t given ks = basic n t ks (star-more n t given)

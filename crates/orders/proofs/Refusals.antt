@@ -1,14 +1,18 @@
--- At most one refusal is given, and none where no test applies; and a refusal is told by its number and values. Assumes nothing.
+-- At most one refusal is given, and none where no test applies; and an answer is known from what it says. Assumes nothing.
 use mathlib.Core.Path.{_≡_, refl, sym, _∙_, ap, ap₂}
-use mathlib.Core.Logic.{_⊎_, inl, inr}
-use mathlib.Core.Bool.{Bool, cond}
+use mathlib.Core.Logic.{inl, inr}
+use mathlib.Core.Bool.{cond}
 use mathlib.Core.List.{List, [], _∷_}
 use Prim.Native.Nat.{ℕ}
+use native.Mathlib.Omega.{arith}
+use denote.Enum.Declared.{tagOf}
+use types.Run.{OneOf, miss}
 use lib.Dec.{eqb}
 use lib.ListN.{getD}
-use Rattle.orders.specs.Refusals.{numberOf, valuesOf, Test, Lowest, Clear, Said, gives, refuses}
+use Rattle.orders.specs.Refusals.{numberOf, valuesOf, Test, Lowest, Clear, Said, gives, refuses, refusal}
 use Rattle.orders.specs.declared.Refusal.{Refusal}
 use Rattle.orders.specs.declared.Refusal.the-variants.{Size, Length, Entry, Addition, StarList, NoTransversal, NoCanon, NotGreatest, TooLong, Line, Label, Room}
+use Rattle.orders.proofs.Refusal.{the-type}
 
 pub lowest-once : (ts : List Test) (j k : ℕ) → Lowest ts j → Lowest ts k → j ≡ k
 lowest-once [] j k p q = absurd p
@@ -21,6 +25,29 @@ pub lowest-clear : (ts : List Test) (k : ℕ) → Lowest ts k → Clear ts → �
 lowest-clear [] k p q = p
 lowest-clear (t ∷ ts) k (inl p) q = q .0 (p .0)
 lowest-clear (t ∷ ts) k (inr p) q = lowest-clear ts k (p .1) (q .1)
+
+-- two answers that refuse by the lowest of the same tests say the same
+pub refused-once : {X : Type 0} (ts : List Test) {j k : ℕ} {a b : Said X} → Lowest ts j → a ≡ refuses j [] → Lowest ts k → b ≡ refuses k [] → a ≡ b
+refused-once ts {j} {k} p e q f = e ∙ ap (λ (i : ℕ). refuses i []) (lowest-once ts j k p q) ∙ sym f
+
+-- the cases of a refusal that hold no line, by their places in the type
+abbrev pub others : List ℕ
+others = 0 ∷ 1 ∷ 2 ∷ 3 ∷ 4 ∷ 5 ∷ 6 ∷ 7 ∷ 8 ∷ 10 ∷ 11 ∷ []
+
+-- they have no value beside their number
+pub values-none : (r : Refusal) → OneOf others (tagOf the-type r) → valuesOf r ≡ []
+values-none Size o = refl
+values-none Length o = refl
+values-none Entry o = refl
+values-none Addition o = refl
+values-none StarList o = refl
+values-none NoTransversal o = refl
+values-none NoCanon o = refl
+values-none NotGreatest o = refl
+values-none TooLong o = refl
+values-none (Line k) o = absurd (miss others 9 tt o)
+values-none Label o = refl
+values-none Room o = refl
 
 -- the refusal with a number and values
 refusalOf : ℕ → List ℕ → Refusal
@@ -51,6 +78,17 @@ refusalOf-said (Line k) = refl
 refusalOf-said Label = refl
 refusalOf-said Room = refl
 
--- two refusals with one number and the same values are one
-pub refusal-once : (r s : Refusal) → numberOf r ≡ numberOf s → valuesOf r ≡ valuesOf s → r ≡ s
-refusal-once r s e f = sym (refusalOf-said r) ∙ ap₂ refusalOf e f ∙ refusalOf-said s
+-- two refusals that say the same are one
+pub refusal-once : {X : Type 0} (r s : Refusal) → _≡_ {A = Said X} (refusal r) (refusal s) → r ≡ s
+refusal-once r s e =
+    let number : numberOf r ≡ numberOf s = cc in
+    let values : valuesOf r ≡ valuesOf s = cc in
+    sym (refusalOf-said r) ∙ ap₂ refusalOf number values ∙ refusalOf-said s
+
+-- and so are two values that are given
+pub given-once : {X : Type 0} (x y : X) → _≡_ {A = Said X} (gives x) (gives y) → x ≡ y
+given-once x y e = cc
+
+-- a value is no refusal
+pub not-both {ℓ} : {A : Type ℓ} {X : Type 0} (x : X) (k : ℕ) (vs : List ℕ) → _≡_ {A = Said X} (gives x) (refuses k vs) → A
+not-both x k vs e = absurd (let z : _≡_ {A = ℕ} 0 1 = cc in omega arith)

@@ -42,11 +42,20 @@ pub data Said (X : Type 0) : Type 0 where
   gives : X → Said X
   refuses : ℕ → List ℕ → Said X
 
+-- what a refusal says
+abbrev pub refusal : {X : Type 0} → Refusal → Said X
+refusal r = refuses (numberOf r) (valuesOf r)
+
 -- ---- which refusal is given
 -- a refusal's number, and the condition under which it is given
 pub record Test : Type 1 where
   pub number : ℕ
   pub applies : Type 0
+
+-- the number with its condition
+infix 68 _given-when_
+abbrev pub _given-when_ : ℕ → Type 0 → Test
+_given-when_ k P = record { number = k; applies = P }
 
 -- "The lowest number that applies is given, each call testing those that concern it": k is the number of the first of the tests,
 -- which stand in rising order, that applies

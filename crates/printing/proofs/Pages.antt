@@ -7,7 +7,7 @@ use native.Mathlib.Numerals.{add-one}
 use lib.IntN.{ℤ, pos, negsuc}
 use lib.ListN.{length, getD, take, drop, length-append, length-map, length-drop}
 use lib.Seq.{take-all}
-use types.Run.{OneOf, miss}
+use types.Run.{OneOf}
 use denote.Enum.Declared.{tagOf}
 use mir.Syntax.{w32, w64}
 use mir.Val.{SFits, Fits}
@@ -17,11 +17,12 @@ use Rattle.lettering.specs.Putting.{Puts}
 use Rattle.lettering.proofs.PutLaws.{puts-none, puts-same, puts-length, puts-tail}
 use Rattle.lettering.proofs.TextLaws.{text-within}
 use Rattle.printing.specs.Parts.{PutsShort, part, whole, Follows}
-use Rattle.printing.specs.Printed.{Figures, addsHead, starsHead, headsHead, sumHead, indexHead, refusedHead, printed}
+use Rattle.printing.specs.Printed.{Figures, addsHead, starsHead, headsHead, sumHead, indexHead, refusedHead, values, printed}
 use Rattle.orders.specs.declared.Refusal.{Refusal}
-use Rattle.orders.specs.declared.Refusal.the-variants.{Size, Length, Entry, Addition, StarList, NoTransversal, NoCanon, NotGreatest, TooLong, Line, Label, Room}
+use Rattle.orders.specs.declared.Refusal.the-variants.{Line}
 use Rattle.orders.proofs.Refusal.{the-type}
-use Rattle.orders.specs.Refusals.{numberOf, valuesOf, Said, gives, refuses}
+use Rattle.orders.specs.Refusals.{numberOf, gives, refusal}
+use Rattle.orders.proofs.Refusals.{others, values-none}
 
 -- a number of 32 bits has at most 10 digits, one of 64 at most 20
 pub number-short : (v : ℕ) → Fits w32 v → length (ended (text v)) ≤ 11
@@ -165,32 +166,16 @@ ten-is = refl
 abbrev pub tenHead : List ℕ
 tenHead = refusedHead ++ (49 ∷ 48 ∷ 32 ∷ [])
 
-pub refused-line : (r : Refusal) (k : ℕ) → r ≡ Line k → ended (tenHead ++ text k) ≡ printed (refuses (numberOf r) (valuesOf r))
+pub refused-line : (r : Refusal) (k : ℕ) → r ≡ Line k → ended (tenHead ++ text k) ≡ printed (refusal r)
 refused-line r k e =
     rw e
     (ap (λ x. ended (refusedHead ++ (49 ∷ 48 ∷ 32 ∷ x))) (sym (append-nil (text k)))
     ∙ ap (λ x. ended (refusedHead ++ (x ++ 32 ∷ (text k ++ [])))) (sym ten-is))
 
--- the cases of a refusal that hold no line number
-abbrev others : List ℕ
-others = 0 ∷ 1 ∷ 2 ∷ 3 ∷ 4 ∷ 5 ∷ 6 ∷ 7 ∷ 8 ∷ 10 ∷ 11 ∷ []
-
-no-values : (k : ℕ) → ended (refusedHead ++ text k) ≡ ended (refusedHead ++ (text k ++ []))
-no-values k = ap (λ x. ended (refusedHead ++ x)) (sym (append-nil (text k)))
-
-pub refused-other : (r : Refusal) → OneOf others (tagOf the-type r) → ended (refusedHead ++ text (numberOf r)) ≡ printed (refuses (numberOf r) (valuesOf r))
-refused-other Size o = no-values 1
-refused-other Length o = no-values 2
-refused-other Entry o = no-values 3
-refused-other Addition o = no-values 4
-refused-other StarList o = no-values 5
-refused-other NoTransversal o = no-values 6
-refused-other NoCanon o = no-values 7
-refused-other NotGreatest o = no-values 8
-refused-other TooLong o = no-values 9
-refused-other (Line k) o = absurd (miss others 9 tt o)
-refused-other Label o = no-values 11
-refused-other Room o = no-values 12
+pub refused-other : (r : Refusal) → OneOf others (tagOf the-type r) → ended (refusedHead ++ text (numberOf r)) ≡ printed (refusal r)
+refused-other r o =
+    ap (λ x. ended (refusedHead ++ x)) (sym (append-nil (text (numberOf r))))
+    ∙ ap (λ x. ended (refusedHead ++ (text (numberOf r) ++ values x))) (sym (values-none r o))
 
 -- a refusal's line fits the page
 pub head-line-short : (head : List ℕ) (k : ℕ) → length head ≤ 11 → Fits w64 k → length (ended (head ++ text k)) ≤ whole

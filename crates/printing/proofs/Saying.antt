@@ -1,42 +1,44 @@
 -- What the answer of a table and of a sheet says, from the promises of the solver and of the reader. Assumes nothing.
 use mathlib.Core.Path.{_≡_, refl, sym, ap, subst, _∙_}
 use mathlib.Core.List.{List, [], _∷_, _++_}
-use mathlib.Core.Logic.{_⊎_, inl, inr}
-use Prim.Native.Nat.{ℕ, _+_, _*_, _<_, _≤_}
+use mathlib.Core.Logic.{inl, inr}
+use Prim.Native.Nat.{ℕ, _*_, _<_, _≤_}
 use native.Mathlib.Nat.{mul-le-mul}
 use native.Mathlib.Omega.{arith}
 use lib.IntN.{ℤ}
 use lib.ListN.{length, take, drop, length-append}
 use lib.Seq.{take-at}
-use Rattle.theory.specs.Limits.{rows, sheet}
+use Rattle.theory.specs.Limits.{rows}
 use Rattle.theory.specs.Lists.{nums, ints, columns, StarList}
 use Rattle.theory.specs.Table.{entry}
-use Rattle.theory.specs.Canon.{Solution, Index}
+use Rattle.theory.specs.Canon.{Solution}
 use Rattle.orders.specs.declared.Refusal.{Refusal}
-use Rattle.orders.specs.Refusals.{numberOf, valuesOf, Lowest, Said, gives, refuses}
-use Rattle.handed.specs.Conditions.{OutOfSize, NoTransversal, table-tests}
+use Rattle.orders.specs.Refusals.{numberOf, valuesOf, Lowest, Said, gives, refuses, refusal}
+use Rattle.orders.proofs.Refusals.{given-once, not-both}
+use Rattle.handed.specs.Conditions.{NoTransversal, table-tests}
+use Rattle.handed.proofs.Basics.{in-size}
 use Rattle.canon.specs.Answers.{said}
 use Rattle.canon.specs.Promises.{Solves, refused, answered}
 use Rattle.canon.specs.declared.Answer.{Answer}
 use Rattle.canon.specs.declared.Answer.the-variants.{Sum, Refused}
 use Rattle.sheet.specs.Text.{over}
-use Rattle.sheet.specs.Sheet.{Labelled, Stands}
-use Rattle.sheet.specs.Reading.{start, good, Reads}
+use Rattle.sheet.specs.Sheet.{Labelled}
+use Rattle.sheet.specs.Reading.{start, good, Reads, TooLong}
 use Rattle.sheet.proofs.Matching.{read-is-written}
 use Rattle.lettering.specs.Putting.{Puts}
 use Rattle.reader.specs.Promise as reading
 use Rattle.reader.specs.declared.Read.{Read}
 use Rattle.reader.specs.declared.Read.the-variants as read
 use Rattle.printing.specs.Printed.{Figures, printed}
-use Rattle.printing.specs.Promise.{says, PrintPromise, no-room, wrote, FiguresOf, TableSays, no-transversal, solved, SheetSays, too-long, wrong-line, of-table}
+use Rattle.printing.specs.Promise.{says, PrintPromise, no-room, wrote, TableSays, no-transversal, solved, SheetSays, too-long, wrong-line, of-table}
 use Rattle.printing.specs.declared.Printed as declared
 use Rattle.printing.specs.declared.Printed.the-variants.{Bytes}
 use Rattle.printing.specs.Parts.{Largest, Tabled, Prints}
 
 -- ---- the solver
-in-size : (n : ℕ) → 1 ≤ n → n ≤ rows → OutOfSize n → ⊥
-in-size n h g (inl e) = omega arith
-in-size n h g (inr e) = omega arith
+-- a refusal says the same, whatever kind of value would be given in its place
+same-refusal : {X Y : Type 0} (y : Refusal) (k : ℕ) (vs : List ℕ) → _≡_ {A = Said X} (refusal y) (refuses k vs) → _≡_ {A = Said Y} (refusal y) (refuses k vs)
+same-refusal y k vs e = let c : numberOf y ≡ k = cc in let d : valuesOf y ≡ vs = cc in cc
 
 abbrev pub figures : List ℕ → List ℕ → List ℤ → ℤ → ℕ → Figures
 figures a s z v x = record { adds = a; stars = s; heads = z; sum = v; index = x }
@@ -44,7 +46,7 @@ figures a s z v x = record { adds = a; stars = s; heads = z; sum = v; index = x 
 -- A table that was read and slices of its size: only refusal 6 is left to the solver.
 module _ (n : ℕ) (t : List ℤ) (h : Tabled n t) (a s : List ℕ) (z : List ℤ) (al : length a ≡ n) (sl : length s ≡ n) (zl : length z ≡ n) where
   only-six : (k : ℕ) → Lowest (table-tests n t (length a ∷ length s ∷ length z ∷ [])) k → (k ≡ 6) × NoTransversal n t
-  only-six k (inl l) = absurd (in-size n (h .some) (h .few) (l .0))
+  only-six k (inl l) = absurd (in-size (λ z. omega (arith, h .some)) (h .few) (l .0))
   only-six k (inr (p, inl l)) = absurd (l .0 (h .square, (al, (sl, (zl, tt)))))
   only-six k (inr (p, inr (q, inl l))) = absurd (l .0 (h .entries-stand))
   only-six k (inr (p, inr (q, inr (u, inl l)))) = (l .1, l .0)
@@ -58,10 +60,9 @@ module _ (n : ℕ) (t : List ℤ) (h : Tabled n t) (a s : List ℕ) (z : List �
   pub solved-says : (r : Answer) (a′ s′ a₁ s₁ : List ℕ) (z′ z₁ : List ℤ) (v : ℤ) (x : ℕ) → Solves n t a s z r a′ s′ z′ → r ≡ Sum v → a₁ ≡ a′ → s₁ ≡ s′
       → z₁ ≡ z′ → Largest a₁ x → TableSays n t (gives (figures a₁ s₁ z₁ v x))
   solved-says r a′ s′ a₁ s₁ z′ z₁ v x (refused k l e ea es ez) q e₁ e₂ e₃ m =
-      let b : gives v ≡ refuses k [] = sym (ap said q) ∙ e in absurd (let o : _≡_ {A = ℕ} 0 1 = cc in omega arith)
+      not-both v k [] (sym (ap said q) ∙ e)
   solved-says r a′ s′ a₁ s₁ z′ z₁ v x (answered w c e la st lz f) q e₁ e₂ e₃ m =
-      let b : gives w ≡ gives v = sym e ∙ ap said q in
-      let d : w ≡ v = cc in
+      let d : w ≡ v = given-once w v (sym e ∙ ap said q) in
       let g : length a₁ ≡ n = ap length e₁ ∙ la in
       solved (figures a₁ s₁ z₁ v x)
       (record {
@@ -84,15 +85,11 @@ module _ (n : ℕ) (t : List ℤ) (h : Tabled n t) (a s : List ℕ) (z : List �
 
   -- A refusal of the solver is refusal 6, and no complete transversal exists.
   pub refused-says : (r : Answer) (a′ s′ : List ℕ) (z′ : List ℤ) (y : Refusal) → Solves n t a s z r a′ s′ z′ → r ≡ Refused y
-      → TableSays n t (refuses (numberOf y) (valuesOf y))
+      → TableSays n t (refusal y)
   refused-says r a′ s′ z′ y (refused k l e ea es ez) q =
-      let b : refuses (numberOf y) (valuesOf y) ≡ refuses k [] = sym (ap said q) ∙ e in
-      let c : numberOf y ≡ k = cc in
-      let d : valuesOf y ≡ [] = cc in
       let f = only-six k l in
-      no-transversal (f .1) (ap (λ i. refuses i (valuesOf y)) (c ∙ f .0) ∙ ap (λ i. refuses 6 i) d)
-  refused-says r a′ s′ z′ y (answered w c e la st lz f) q =
-      let b : gives w ≡ refuses (numberOf y) (valuesOf y) = sym e ∙ ap said q in absurd (let o : _≡_ {A = ℕ} 0 1 = cc in omega arith)
+      no-transversal (f .1) (same-refusal y k [] (sym (ap said q) ∙ e) ∙ ap (λ (i : ℕ). refuses i []) (f .0))
+  refused-says r a′ s′ z′ y (answered w c e la st lz f) q = not-both w (numberOf y) (valuesOf y) (sym e ∙ ap said q)
 
 -- a lent front of an array, filled: what the front holds, and its length
 pub front-is : {A : Type 0} (l zeros : List A) (n : ℕ) → length l ≡ n → take n (l ++ drop n zeros) ≡ l
@@ -105,7 +102,7 @@ front-inside l zeros n e = omega (arith, length-append l (drop n zeros))
 -- the table that a sheet says stands at the front of the reader's table
 pub record Taken (s : List ℕ) (n : ℕ) (b : List ℤ) : Type 0 where
   pub labelled : Labelled
-  pub long : length s ≤ sheet
+  pub long : TooLong s → ⊥
   pub reads : Reads start 1 s (good labelled)
   pub size : n ≡ length (labelled .row-labels)
   pub front : take (n * n) b ≡ labelled .entries
@@ -114,33 +111,32 @@ pub record Taken (s : List ℕ) (n : ℕ) (b : List ℤ) : Type 0 where
   pub small : n * n ≤ rows * rows
 
 module _ (s : List ℕ) (m m′ : reading.Lent) (w : reading.Wanted m) (r : Read) (p : reading.ReadPromise s m m′ (reading.says r)) where
-  pub sheet-refused : (y : Refusal) → r ≡ read.Refused y → SheetSays s (refuses (numberOf y) (valuesOf y))
+  -- a sheet that the reader refuses, by 9 or by 10 since the lengths are the wanted ones
+  pub sheet-refused : (y : Refusal) → r ≡ read.Refused y → SheetSays s (refusal y)
   sheet-refused y q = go p
     where
-      go : reading.ReadPromise s m m′ (reading.says r) → SheetSays s (refuses (numberOf y) (valuesOf y))
-      go (reading.refused (reading.wrong-length n e) f) = absurd (n w)
-      go (reading.refused (reading.too-long v l e) f) =
-          let b = sym (ap reading.says q) ∙ e in too-long l (let c : numberOf y ≡ 9 = cc in let d : valuesOf y ≡ [] = cc in cc)
-      go (reading.refused (reading.wrong-line k v l g e) f) =
-          let b = sym (ap reading.says q) ∙ e in wrong-line k l g (let c : numberOf y ≡ 10 = cc in let d : valuesOf y ≡ k ∷ [] = cc in cc)
-      go (reading.read t v l g e f) =
-          let b = sym (ap reading.says q) ∙ e in absurd (let o : _≡_ {A = ℕ} 0 1 = cc in omega arith)
+      says-this : (k : ℕ) (vs : List ℕ) → reading.says r ≡ refuses k vs → _≡_ {A = Said Figures} (refusal y) (refuses k vs)
+      says-this k vs e = same-refusal y k vs (sym (ap reading.says q) ∙ e)
+
+      lower : (k : ℕ) → Lowest (reading.reader-tests s m) k → reading.says r ≡ refuses k [] → SheetSays s (refusal y)
+      lower k (inl l) e = absurd (l .0 w)
+      lower k (inr (v, inl l)) e = too-long (l .0) (says-this k [] e ∙ ap (λ (i : ℕ). refuses i []) (l .1))
+      lower k (inr (v, inr l)) e = absurd (l .1)
+
+      go : reading.ReadPromise s m m′ (reading.says r) → SheetSays s (refusal y)
+      go (reading.refused k l e f) = lower k l e
+      go (reading.wrong-line k c g e f) = wrong-line k (c .1 .0) g (says-this 10 (k ∷ []) e)
+      go (reading.read t c g e f) =
+          not-both (length (t .row-labels)) (numberOf y) (valuesOf y) (sym e ∙ ap reading.says q)
 
   pub sheet-taken : (n : ℕ) → r ≡ read.Rows n → Taken s n (m′ .table)
   sheet-taken n q = go p
     where
-      off : reading.Refuses s m (reading.says r) → Taken s n (m′ .table)
-      off (reading.wrong-length u e) = absurd (u w)
-      off (reading.too-long v l e) =
-          let b = sym (ap reading.says q) ∙ e in absurd (let o : _≡_ {A = ℕ} 0 1 = cc in omega arith)
-      off (reading.wrong-line k v l g e) =
-          let b = sym (ap reading.says q) ∙ e in absurd (let o : _≡_ {A = ℕ} 0 1 = cc in omega arith)
-
       go : reading.ReadPromise s m m′ (reading.says r) → Taken s n (m′ .table)
-      go (reading.refused u f) = off u
-      go (reading.read t v l g e f) =
-          let b = sym (ap reading.says q) ∙ e in
-          let c : n ≡ length (t .row-labels) = cc in
+      go (reading.refused k l e f) = not-both n k [] (sym (ap reading.says q) ∙ e)
+      go (reading.wrong-line k v g e f) = not-both n 10 (k ∷ []) (sym (ap reading.says q) ∙ e)
+      go (reading.read t v g e f) =
+          let c : n ≡ length (t .row-labels) = given-once n (length (t .row-labels)) (sym (ap reading.says q) ∙ e) in
           let st = read-is-written s t g .stands in
           let len : length (t .entries) ≡ n * n = st .square ∙ ap (λ i. i * i) (sym c) in
           let k : n * n ≤ 1024 = mul-le-mul {n₁ = n} {m₁ = n} {n₂ = 32} {m₂ = 32} (omega (arith, st .few)) (omega (arith, st .few)) in
@@ -148,7 +144,7 @@ module _ (s : List ℕ) (m m′ : reading.Lent) (w : reading.Wanted m) (r : Read
           let fr : take (n * n) (m′ .table) ≡ t .entries = ap (take (n * n)) x ∙ take-at (t .entries) (drop (length (t .entries)) (m .table)) (n * n) len in
           record {
             labelled = t;
-            long = l;
+            long = v .1 .0;
             reads = g;
             size = c;
             front = fr;
@@ -201,8 +197,7 @@ module _ (s page page′ : List ℕ) (k : ℕ) (p : Prints (SheetSays s) page pa
 -- ---- for callers: as many bytes as are told stand in the room
 pub bytes-inside : (s room room′ : List ℕ) (r : declared.Printed) (k : ℕ) → PrintPromise s room room′ (says r) → r ≡ Bytes k → k ≤ length room′
 bytes-inside s room room′ r k (no-room a h l e f) q =
-    let b : gives k ≡ refuses 12 [] = sym (ap says q) ∙ e in absurd (let o : _≡_ {A = ℕ} 0 1 = cc in omega arith)
+    not-both k 12 [] (sym (ap says q) ∙ e)
 bytes-inside s room room′ r k (wrote a h l e f) q =
-    let b : gives k ≡ gives (length (printed a)) = sym (ap says q) ∙ e in
-    let c : k ≡ length (printed a) = cc in
+    let c : k ≡ length (printed a) = given-once k (length (printed a)) (sym (ap says q) ∙ e) in
     omega (arith, ap length f, length-append (printed a) (drop (length (printed a)) room))

@@ -1,22 +1,18 @@
 -- No second answer and no second memory meets the promise of printing. Assumes nothing.
-use mathlib.Core.Path.{_≡_, refl, sym, ap, _∙_}
+use mathlib.Core.Path.{_≡_, sym, ap, _∙_}
 use mathlib.Core.List.{List, [], _∷_}
-use Prim.Native.Nat.{ℕ, _-_, _≤_, _<_}
+use Prim.Native.Nat.{ℕ, _<_}
 use native.Mathlib.Omega.{arith}
 use lib.IntN.{ℤ, pos}
-use lib.ListN.{length, getD}
+use lib.ListN.{length}
 use lib.Seq.{ext-getD}
 use Rattle.theory.specs.Lists.{nums, columns, StarList}
 use Rattle.theory.specs.Table.{entry}
-use Rattle.theory.specs.Canon.{OfMaxima}
 use Rattle.theory.proofs.Unique.{solution-once, index-once}
 use Rattle.orders.specs.Refusals.{numberOf, valuesOf, Said, gives, refuses}
+use Rattle.orders.proofs.Refusals.{refusal-once, given-once, not-both}
 use Rattle.sheet.specs.Text.{over}
-use Rattle.sheet.specs.Sheet.{Labelled}
-use Rattle.sheet.specs.Reading.{Outcome, good, wrong}
-use Rattle.sheet.specs.Answer.{refusal}
-use Rattle.sheet.proofs.Once.{reads-once}
-use Rattle.sheet.proofs.Answers.{refusal-once}
+use Rattle.sheet.proofs.Once.{good-once, wrong-once, good-not-wrong}
 use Rattle.printing.specs.Printed.{Figures, printed}
 use Rattle.printing.specs.Promise.{says, FiguresOf, TableSays, no-transversal, solved, SheetSays, too-long, wrong-line, of-table, PrintPromise, no-room, wrote}
 use Rattle.printing.specs.declared.Printed.{Printed}
@@ -24,13 +20,10 @@ use Rattle.printing.specs.declared.Printed.the-variants.{Bytes, Refused}
 
 -- what is returned is known from its number and values
 pub says-once : (a b : Printed) → says a ≡ says b → a ≡ b
-says-once (Bytes n) (Bytes m) e = let h : n ≡ m = cc in ap Bytes h
-says-once (Bytes n) (Refused r) e = absurd (let z : _≡_ {A = ℕ} 0 1 = cc in omega arith)
-says-once (Refused r) (Bytes m) e = absurd (let z : _≡_ {A = ℕ} 0 1 = cc in omega arith)
-says-once (Refused r) (Refused q) e =
-    let c : numberOf r ≡ numberOf q = cc in
-    let d : valuesOf r ≡ valuesOf q = cc in
-    let g : refusal r ≡ refusal q = cc in ap Refused (refusal-once r q g)
+says-once (Bytes n) (Bytes m) e = ap Bytes (given-once n m e)
+says-once (Bytes n) (Refused r) e = not-both n (numberOf r) (valuesOf r) e
+says-once (Refused r) (Bytes m) e = not-both m (numberOf r) (valuesOf r) (sym e)
+says-once (Refused r) (Refused q) e = ap Refused (refusal-once r q e)
 
 -- two star lists with the same columns are the same numbers
 star-same : (n : ℕ) (a b : List ℕ) → StarList n a → StarList n b → (i : ℕ) → i < n → columns a i ≡ columns b i → nums a i ≡ nums b i
@@ -64,24 +57,18 @@ table-once n t a b (no-transversal u e) (solved g p f) = some-transversal n t g 
 table-once n t a b (solved g p e) (no-transversal v f) = some-transversal n t g p v
 table-once n t a b (solved g p e) (solved h q f) = e ∙ ap gives (figures-once n t g h p q) ∙ sym f
 
-not-both : {X : Type 0} (t : Labelled) (k : ℕ) → good t ≡ wrong k → X
-not-both t k e = absurd (let z : _≡_ {A = ℕ} 0 1 = cc in omega arith)
-
 -- a sheet has one answer
 pub sheet-once : (s : List ℕ) (a b : Said Figures) → SheetSays s a → SheetSays s b → a ≡ b
 sheet-once s a b (too-long l e) (too-long m f) = e ∙ sym f
-sheet-once s a b (too-long l e) (wrong-line k m r f) = absurd (omega arith)
-sheet-once s a b (too-long l e) (of-table t m r p) = absurd (omega arith)
-sheet-once s a b (wrong-line k l r e) (too-long m f) = absurd (omega arith)
-sheet-once s a b (wrong-line k l r e) (wrong-line j m q f) =
-    let d : _≡_ {A = Outcome} (wrong k) (wrong j) = reads-once r q in
-    let c : k ≡ j = cc in e ∙ ap (λ x. refuses 10 (x ∷ [])) c ∙ sym f
-sheet-once s a b (wrong-line k l r e) (of-table t m q p) = not-both t k (reads-once q r)
-sheet-once s a b (of-table t l r p) (too-long m f) = absurd (omega arith)
-sheet-once s a b (of-table t l r p) (wrong-line k m q f) = not-both t k (reads-once r q)
+sheet-once s a b (too-long l e) (wrong-line k m r f) = absurd (m l)
+sheet-once s a b (too-long l e) (of-table t m r p) = absurd (m l)
+sheet-once s a b (wrong-line k l r e) (too-long m f) = absurd (l m)
+sheet-once s a b (wrong-line k l r e) (wrong-line j m q f) = e ∙ ap (λ x. refuses 10 (x ∷ [])) (wrong-once r q) ∙ sym f
+sheet-once s a b (wrong-line k l r e) (of-table t m q p) = good-not-wrong q r
+sheet-once s a b (of-table t l r p) (too-long m f) = absurd (l m)
+sheet-once s a b (of-table t l r p) (wrong-line k m q f) = good-not-wrong r q
 sheet-once s a b (of-table t l r p) (of-table u m q o) =
-    let d : _≡_ {A = Outcome} (good t) (good u) = reads-once r q in
-    let c : t ≡ u = cc in
+    let c : t ≡ u = good-once r q in
     table-once (length (u .row-labels)) (u .entries) a b (rw c at p) o
 
 -- Uniqueness of printing: two results with two memories that both meet the statement are the same result and the same memory.

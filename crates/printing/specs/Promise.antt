@@ -4,15 +4,14 @@ use mathlib.Core.List.{List, [], _∷_}
 use Prim.Native.Nat.{ℕ, _≤_, _<_}
 use lib.IntN.{ℤ}
 use lib.ListN.{length}
-use Rattle.theory.specs.Limits.{sheet}
 use Rattle.theory.specs.Lists.{nums, ints, columns, StarList}
 use Rattle.theory.specs.Table.{entry}
 use Rattle.theory.specs.Canon.{Solution, Index}
-use Rattle.orders.specs.Refusals.{numberOf, valuesOf, Said, gives, refuses}
+use Rattle.orders.specs.Refusals.{Said, gives, refuses, refusal}
 use Rattle.handed.specs.Conditions.{NoTransversal}
 use Rattle.sheet.specs.Text.{over}
 use Rattle.sheet.specs.Sheet.{Labelled}
-use Rattle.sheet.specs.Reading.{start, good, wrong, Reads}
+use Rattle.sheet.specs.Reading.{start, good, Reads, TooLong, WrongLine}
 use Rattle.printing.specs.Printed.{Figures, printed}
 use Rattle.printing.specs.declared.Printed.{Printed}
 use Rattle.printing.specs.declared.Printed.the-variants.{Bytes, Refused}
@@ -20,7 +19,7 @@ use Rattle.printing.specs.declared.Printed.the-variants.{Bytes, Refused}
 -- document 01's number and values for each case: the length written, or a refusal
 abbrev pub says : Printed → Said ℕ
 says (Bytes n) = gives n
-says (Refused r) = refuses (numberOf r) (valuesOf r)
+says (Refused r) = refusal r
 
 -- the figures of a table of n rows: its simplest canon, the stars, the heads and the sum, and "the index figure is the largest
 -- addition"
@@ -39,9 +38,9 @@ pub data TableSays (n : ℕ) (t : List ℤ) (a : Said Figures) : Type 0 where
 -- what the answer of a sheet says: that "a sheet is longer than 12,288 bytes", that "a line of a sheet is wrong", or what the
 -- answer of its table says
 pub data SheetSays (s : List ℕ) (a : Said Figures) : Type 0 where
-  too-long : sheet < length s → a ≡ refuses 9 [] → SheetSays s a
-  wrong-line : (k : ℕ) → length s ≤ sheet → Reads start 1 s (wrong k) → a ≡ refuses 10 (k ∷ []) → SheetSays s a
-  of-table : (t : Labelled) → length s ≤ sheet → Reads start 1 s (good t) → TableSays (length (t .row-labels)) (t .entries) a → SheetSays s a
+  too-long : TooLong s → a ≡ refuses 9 [] → SheetSays s a
+  wrong-line : (k : ℕ) → (TooLong s → ⊥) → WrongLine s k → a ≡ refuses 10 (k ∷ []) → SheetSays s a
+  of-table : (t : Labelled) → (TooLong s → ⊥) → Reads start 1 s (good t) → TableSays (length (t .row-labels)) (t .entries) a → SheetSays s a
 
 -- the sheet, the room at the call, the room after it, and what is returned: the printed answer stands at the front of the room,
 -- and bytes after it stay; or it does not fit, and the room holds what it held at the call

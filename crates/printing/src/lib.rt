@@ -3,7 +3,7 @@ ghost use mathlib.Core.List.{List, [], _∷_, _++_, map};
 ghost use Prim.Native.Nat.{ℕ, _+_, _*_, _<_, _≤_};
 ghost use lib.ListN.{length};
 ghost use Rattle.theory.specs.Limits.{rows};
-ghost use Rattle.orders.specs.Refusals.{numberOf, valuesOf, gives, refuses};
+ghost use Rattle.orders.specs.Refusals.{gives, refusal};
 ghost use Rattle.sheet.specs.Text.{text, signed, ended};
 ghost use Rattle.sheet.specs.Sheet.{labelLines, labelSection};
 ghost use Rattle.printing.specs.Printed.{Figures, printed};
@@ -158,7 +158,7 @@ fn put_figures(
 // A refusal on the page.
 fn put_refusal(r: Refusal, page: &mut [u8]) -> usize
     requires { ⌜ whole ≤ length (now page) ⌝ }
-    ensures { λ k. ⌜ PutsShort whole (printed (refuses (numberOf r) (valuesOf r))) (now (page .entry)) (now (page .exit)) k ⌝ }
+    ensures { λ k. ⌜ PutsShort whole (printed (refusal r)) (now (page .entry)) (now (page .exit)) k ⌝ }
 {
     if let Refusal::Line(line) = r {
         return put_heading(b"refused 10 ", line, page);

@@ -163,8 +163,8 @@ module _ (l : List ℕ) (n : ℕ) where
   heading-rows s NoCount e f = rw e (λ c h. f c (record { least = h .0; most = h .1; is = h .2 }))
 
   pub heading-cols : (s : ℕ) (x : Count) → s ≡ 1 → AfterOf l colsHead n n x → HeadingOf l s n x
-  heading-cols s (Of c) e f = rw e (f .least, f .most, f .is)
-  heading-cols s NoCount e f = rw e (λ c h. f c (record { least = h .0; most = h .1; is = h .2 }))
+  heading-cols s (Of c) e f = rw e (omega (arith, f .least, f .most), f .is)
+  heading-cols s NoCount e f = rw e (λ c h. f c (record { least = omega (arith, h .0); most = omega (arith, h .0); is = h .1 }))
 
   pub heading-orders : (s : ℕ) (x : Count) → s ≡ 2 → AfterOf l ordersHead 0 (n * n) x → HeadingOf l s n x
   heading-orders s (Of c) e f = rw e (f .least, f .most, f .is)

@@ -1,6 +1,6 @@
 -- The ways through the reader, and that each meets the promise. Assumes nothing.
 use mathlib.Core.Path.{_≡_, refl, sym, ap, subst, subst⁻¹, _∙_}
-use mathlib.Core.Logic.{_≢_}
+use mathlib.Core.Logic.{_≢_, inl, inr}
 use mathlib.Core.List.{List, [], _∷_, _++_, append-assoc, append-nil}
 use Prim.Native.Nat.{ℕ, zero, suc, _+_, _-_, _*_, _<_, _≤_}
 use native.Mathlib.Omega.{arith}
@@ -9,22 +9,36 @@ use lib.ListN.{length, take, drop, replicate, length-append, length-drop, length
 use lib.Seq.{take-at, take-append-add}
 use Rattle.theory.specs.Limits.{rows, sheet}
 use Rattle.theory.specs.Table.{absent}
+use Rattle.orders.specs.Refusals.{Clear, gives, refuses}
 use Rattle.sheet.specs.Text.{over}
 use Rattle.sheet.specs.Labels.{width, slots, Labels}
 use Rattle.sheet.specs.Sheet.{Labelled}
-use Rattle.sheet.specs.Reading.{State, start, tableOf, good, wrong, Reads, done}
-use Rattle.sheet.specs.Answer.{gives, refuses}
+use Rattle.sheet.specs.Reading.{State, start, tableOf, good, wrong, Reads, done, TooLong, WrongLine}
 use Rattle.sheet.proofs.Slots.{slots-length, labels-short}
 use Rattle.sheet.proofs.Matching.{read-is-written}
 use Rattle.reader.specs.declared.Walked.{Walked}
 use Rattle.reader.specs.Parts.{Holding, Holds, Ends, WalkTells}
-use Rattle.reader.specs.Promise.{Lent, lent, Wanted, Refuses, wrong-length, too-long, wrong-line, written, ReadPromise, refused, read}
+use Rattle.reader.specs.Promise.{Lent, lent, Wanted, WrongLength, reader-tests, written, ReadPromise, refused, wrong-line, read}
 use Rattle.reader.proofs.KeepLaws.{take-replicate}
 use Rattle.reader.proofs.WalkLaws.{surplus, places-few}
 
 -- the three lengths
 pub wanted : (t : List ℤ) (r c : List ℕ) → length t ≡ 1024 → length r ≡ 256 → length c ≡ 256 → Wanted (lent t r c)
 wanted t r c p q u = record { table-length = p; rows-length = q; cols-length = u }
+
+-- the lowest refusal that applies, from what the tests told; and when 2 and 9 do not
+pub refuse-length : (s : List ℕ) (m : Lent) → WrongLength m → ReadPromise s m m (refuses 2 [])
+refuse-length s m other = refused 2 (inl (other, refl)) refl refl
+
+module _ (s : List ℕ) (m : Lent) (lengths : Wanted m) where
+  pub refuse-long : TooLong s → ReadPromise s m m (refuses 9 [])
+  refuse-long long = refused 9 (inr ((λ f. f lengths), inl (long, refl))) refl refl
+
+  pub all-clear : length s ≤ sheet → Clear (reader-tests s m)
+  all-clear few = ((λ f. f lengths), ((λ long. omega arith), tt))
+
+  pub refuse-line : length s ≤ sheet → (k : ℕ) → WrongLine s k → ReadPromise s m m (refuses 10 (k ∷ []))
+  refuse-line few k line = wrong-line k (all-clear few) line refl refl
 
 -- the first n × n entries of what is kept are the table's
 table-front : (e : List ℤ) (k : ℕ) → length e ≤ k → k ≤ 1024 → take k (e ++ replicate (1024 - length e) absent) ≡ e ++ replicate (k - length e) absent
@@ -51,10 +65,8 @@ module _ (s : List ℕ) (m : Lent) (w : Wanted m) (few : length s ≤ sheet) (r 
   read-surplus h =
       let st = t .ended z .0 in
       let e = t .ended z .1 in
-      refused
-      (wrong-line (r .line) w few
-      (e .whole (wrong (r .line)) (surplus st (r .line) (drop (r .at) s) (e .final) (omega (arith, length-drop (r .at) s)))) refl)
-      refl
+      refuse-line s m w few (r .line)
+      (e .whole (wrong (r .line)) (surplus st (r .line) (drop (r .at) s) (e .final) (omega (arith, length-drop (r .at) s))))
 
   -- a good sheet, whose table and labels were copied out
   pub read-good : length s ≤ r .at → (t′ : List ℤ) (r′ c′ : List ℕ)
@@ -86,7 +98,7 @@ module _ (s : List ℕ) (m : Lent) (w : Wanted m) (few : length s ≤ sheet) (r 
       slots-length (st .row-labels) (labels-short (st .row-labels) (e .held .rows-stand)) ∙ omega arith in
       let cl : length (slots (st .col-labels)) ≡ 8 * r .n =
       slots-length (st .col-labels) (labels-short (st .col-labels) (e .held .cols-stand)) ∙ omega arith in
-      read table w few g (ap gives n)
+      read table (all-clear s m w few) g (ap gives n)
       (ap (λ x. lent x r′ c′) (p ∙ copied (table .entries) kept-table (m .table) (r .n * r .n) sq tf)
       ∙ ap (λ x. lent (over (table .entries) (m .table)) x c′)
       (q ∙ copied (slots (st .row-labels)) kept-rows (m .row-labels) (8 * r .n) rl rf)

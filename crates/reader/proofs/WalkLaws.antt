@@ -135,12 +135,12 @@ headings-only st st′ l z (order-line m i j v s y p q o r u e) = absurd (omega 
 -- what a heading's count is within
 heading-small : (section n c : ℕ) (l : List ℕ) → Heading section n c l → n ≤ rows → section < 2 → c ≤ rows
 heading-small zero n c l h f g = h .1
-heading-small (suc zero) n c l h f g = omega (arith, h .1)
+heading-small (suc zero) n c l h f g = omega (arith, h .0)
 heading-small (suc (suc s)) n c l h f g = absurd (omega arith)
 
 heading-same : (section n c : ℕ) (l : List ℕ) → Heading section n c l → section ≡ 1 → c ≡ n
 heading-same zero n c l h e = absurd (omega arith)
-heading-same (suc zero) n c l h e = omega (arith, h .0, h .1)
+heading-same (suc zero) n c l h e = h .0
 heading-same (suc (suc s)) n c l h e = absurd (omega arith)
 
 module _ (s : List ℕ) (kept : Store) (n section line at : ℕ) (u : Outer s kept n section line at) where

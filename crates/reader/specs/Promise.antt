@@ -1,20 +1,20 @@
 -- The reader's promise.
 use mathlib.Core.Path.{_≡_}
 use mathlib.Core.List.{List, [], _∷_}
-use Prim.Native.Nat.{ℕ, _*_, _≤_, _<_}
+use Prim.Native.Nat.{ℕ, _*_}
 use lib.IntN.{ℤ}
 use lib.ListN.{length}
-use Rattle.theory.specs.Limits.{rows, sheet}
+use Rattle.theory.specs.Limits.{rows}
+use Rattle.orders.specs.Refusals.{Said, gives, refuses, refusal, Test, _given-when_, Lowest, Clear}
 use Rattle.sheet.specs.Text.{over}
 use Rattle.sheet.specs.Labels.{width, slots}
 use Rattle.sheet.specs.Sheet.{Labelled}
-use Rattle.sheet.specs.Reading.{start, good, wrong, Reads}
-use Rattle.sheet.specs.Answer.{Answer, gives, refuses, refusal}
+use Rattle.sheet.specs.Reading.{start, good, Reads, TooLong, WrongLine}
 use Rattle.reader.specs.declared.Read.{Read}
 use Rattle.reader.specs.declared.Read.the-variants.{Rows, Refused}
 
 -- document 01's number and values for each case: "The reader returns N"
-abbrev pub says : Read → Answer
+abbrev pub says : Read → Said ℕ
 says (Rows n) = gives n
 says (Refused r) = refusal r
 
@@ -33,11 +33,13 @@ pub record Wanted (m : Lent) : Type 0 where
   pub rows-length : length (m .row-labels) ≡ width * rows
   pub cols-length : length (m .col-labels) ≡ width * rows
 
--- "The lowest number that applies is given": "Reader: 2, 9, 10"
-pub data Refuses (s : List ℕ) (m : Lent) (a : Answer) : Type 0 where
-  wrong-length : (Wanted m → ⊥) → a ≡ refuses 2 [] → Refuses s m a
-  too-long : Wanted m → sheet < length s → a ≡ refuses 9 [] → Refuses s m a
-  wrong-line : (k : ℕ) → Wanted m → length s ≤ sheet → Reads start 1 s (wrong k) → a ≡ refuses 10 (k ∷ []) → Refuses s m a
+-- 2: "a lent slice isn't of the wanted length"
+abbrev pub WrongLength : Lent → Type 0
+WrongLength m = Wanted m → ⊥
+
+-- "Reader: 2, 9, 10": the two that are tested before the lines are read
+abbrev pub reader-tests : List ℕ → Lent → List Test
+reader-tests s m = 2 given-when WrongLength m ∷ 9 given-when TooLong s ∷ []
 
 -- "It writes the first N × N entries and 8 bytes a label, filled up with zero bytes; later entries and bytes stay."
 abbrev pub written : Labelled → Lent → Lent
@@ -48,9 +50,11 @@ written t m =
       col-labels = over (slots (t .col-labels)) (m .col-labels);
     }
 
--- the sheet s, what was lent at the call, what is lent after it, and the answer
-pub data ReadPromise (s : List ℕ) (m m′ : Lent) (a : Answer) : Type 0 where
-  -- "Each lent buffer then holds what it held at the call."
-  refused : Refuses s m a → m′ ≡ m → ReadPromise s m m′ a
-  read : (t : Labelled) → Wanted m → length s ≤ sheet → Reads start 1 s (good t) → a ≡ gives (length (t .row-labels)) → m′ ≡ written t m
+-- The sheet s, what was lent at the call, what is lent after it, and the answer. Either 2 or 9 applies: then the lower is returned. Or
+-- neither does, and the lines are read: then 10 is returned with the number of the wrong line; or, where no line is wrong, N, with
+-- the table and the labels written. With a refusal "each lent buffer then holds what it held at the call".
+pub data ReadPromise (s : List ℕ) (m m′ : Lent) (a : Said ℕ) : Type 0 where
+  refused : (k : ℕ) → Lowest (reader-tests s m) k → a ≡ refuses k [] → m′ ≡ m → ReadPromise s m m′ a
+  wrong-line : (k : ℕ) → Clear (reader-tests s m) → WrongLine s k → a ≡ refuses 10 (k ∷ []) → m′ ≡ m → ReadPromise s m m′ a
+  read : (t : Labelled) → Clear (reader-tests s m) → Reads start 1 s (good t) → a ≡ gives (length (t .row-labels)) → m′ ≡ written t m
       → ReadPromise s m m′ a

@@ -5,4 +5,3 @@ pub mod Lines
 pub mod Once
 pub mod Orders
 pub mod Matching
-pub mod Answers

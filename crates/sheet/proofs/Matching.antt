@@ -5,20 +5,18 @@ use mathlib.Core.Bool.{Bool, true, false, cond}
 use mathlib.Core.List.{List, [], _∷_, _++_, append-assoc, append-nil}
 use Prim.Native.Nat.{ℕ, zero, suc, _+_, _-_, _*_, _/_, _%_, _<_, _≤_}
 use native.Mathlib.Omega.{arith}
-use native.Mathlib.Numerals.{add-one}
-use lib.IntN.{ℤ, pos}
-use lib.ListN.{length, getD, replicate, length-append, length-replicate, replicate-append-replicate}
+use lib.IntN.{ℤ}
+use lib.ListN.{length, replicate, length-append, length-replicate}
 use Rattle.theory.specs.Limits.{rows, order}
-use Rattle.theory.specs.Table.{absent, Present, Order, Entries}
-use Rattle.sheet.specs.Text.{feed, blank, text, ended, rowsHead, colsHead, ordersHead}
-use Rattle.sheet.specs.Labels.{Form, New, Labels}
-use Rattle.sheet.specs.Sheet.{Labelled, Stands, labelLines, isAbsent, presentCount, orderText, orderLine, orderLines, labelSection, orderSection, sheetOf}
-use Rattle.sheet.specs.Reading.{Ended, State, start, Heading, After, heading, row-label, col-label, order-line, begun, withRow, withCol, withOrder, Final, Outcome, good, wrong, tableOf, Reads, done, short, unfit, next}
-use Rattle.sheet.proofs.Bytes.{clash}
-use Rattle.sheet.proofs.Slots.{labels-none, labels-more, labels-front, labels-new, labels-form, length-more}
+use Rattle.theory.specs.Table.{absent, Order, Entries}
+use Rattle.sheet.specs.Text.{feed, text, ended, rowsHead, colsHead, ordersHead}
+use Rattle.sheet.specs.Labels.{Labels}
+use Rattle.sheet.specs.Sheet.{Labelled, Stands, labelLines, isAbsent, presentCount, orderText, orderLines, labelSection, orderSection, sheetOf}
+use Rattle.sheet.specs.Reading.{Ended, State, start, After, heading, row-label, col-label, order-line, Final, Outcome, good, tableOf, Reads, done, short, unfit, next}
+use Rattle.sheet.proofs.Slots.{labels-none, labels-more, labels-new, labels-form, length-more}
 use Rattle.sheet.proofs.Lines.{Unbroken, rows-unbroken, cols-unbroken, orders-unbroken, label-unbroken, order-unbroken}
 use Rattle.sheet.proofs.Orders.{label-lines-append, label-lines-one, absent-is, absent-not, order-present, lines-append, lines-absent, lines-one, count-append, count-absent, count-one, place-row, place-col, cell, row-inside, col-inside, row-col, entries-none, entries-append, entries-right, entries-absent, entries-one}
-use Rattle.sheet.proofs.Once.{reads-once}
+use Rattle.sheet.proofs.Once.{good-once}
 
 -- the state in each section
 abbrev pub inRows : ℕ → List (List ℕ) → State
@@ -97,7 +95,7 @@ step {p = p} {l = l} (in-rows c m rs e a b ls q) (heading d z h f) =
     (in-cols d rs [] (omega arith) (omega arith) (omega arith) ls labels-none
     (ap (λ y. y ++ ended l) (q ∙ ap (λ y. ended (rowsHead ++ text y) ++ labelLines rs) k)
     ∙ ap (λ y. labelSection rowsHead rs ++ y)
-    (ap ended (h .2 ∙ ap (λ y. colsHead ++ text y) x) ∙ sym (append-nil (ended (colsHead ++ text (length rs)))))))
+    (ap ended (h .1 ∙ ap (λ y. colsHead ++ text y) x) ∙ sym (append-nil (ended (colsHead ++ text (length rs)))))))
 step {p = p} {l = l} (in-rows c m rs e a b ls q) (row-label m′ s z g n f) =
     subst⁻¹ (λ y. Stage y (p ++ ended l)) f
     (in-rows c m′ (rs ++ (l ∷ [])) (omega (arith, length-more rs l)) a b (labels-more rs l ls g n)
@@ -178,12 +176,10 @@ finish (in-orders c m rs cs e k w a b ls ks x y q) f =
           };
     }
 
-good-once : (a b : Labelled) → good a ≡ good b → a ≡ b
-good-once a b e = cc
-
 back : {st : State} {k : ℕ} {s : List ℕ} {o : Outcome} (t : Labelled) (p : List ℕ) → Reads st k s o → o ≡ good t → Stage st p → Written t (p ++ s)
 back {st = st} {s = s} t p (done z f e) g q =
-    let h : tableOf st ≡ t = good-once (tableOf st) t (sym e ∙ g) in
+    let d : good (tableOf st) ≡ good t = sym e ∙ g in
+    let h : tableOf st ≡ t = cc in
     subst (λ x. Written x (p ++ s)) h (subst⁻¹ (λ x. Written (tableOf st) x) (ap (λ x. p ++ x) z ∙ append-nil p) (finish q f))
 back t p (short u n e) g q = absurd (let z : _≡_ {A = ℕ} 0 1 = cc in omega arith)
 back t p (unfit l r d n e) g q = absurd (let z : _≡_ {A = ℕ} 0 1 = cc in omega arith)
@@ -192,7 +188,7 @@ back t p (next l r st′ d a m) g q =
     (append-assoc p (ended l) r ∙ ap (λ x. p ++ x) (append-assoc l (feed ∷ []) r ∙ sym (d .parts)))
     (back t (p ++ ended l) m g (step q a))
 
--- "a sheet that is read is what the writer writes for it, byte for byte"
+-- a sheet that is read is what the writer writes for its table, byte for byte
 pub read-is-written : (s : List ℕ) (t : Labelled) → Reads start 1 s (good t) → Written t s
 read-is-written s t r = back t [] r refl at-start
 
@@ -293,7 +289,7 @@ count-le (v ∷ e) = go (isAbsent v) (count-le e)
     go true h = omega arith
     go false h = omega arith
 
--- "reading a written sheet gives the same labelled table"
+-- the sheet of a labelled table reads as that table
 pub written-is-read : (t : Labelled) → Stands t → Reads start 1 (sheetOf t) (good t)
 written-is-read t w =
     let rs = t .row-labels in
@@ -310,7 +306,7 @@ written-is-read t w =
     subst⁻¹ (λ x. Reads (inRows 0 rs) k x (good t)) (append-assoc (ended (colsHead ++ text (length cs))) (labelLines cs) third)
     (next {st = inRows 0 rs} (colsHead ++ text (length cs)) (labelLines cs ++ third) (inCols (length cs) rs [])
     (first (colsHead ++ text (length cs)) (labelLines cs ++ third) (cols-unbroken (length cs)))
-    (heading (length cs) refl (omega (arith, w .same), omega (arith, w .same), refl) refl)
+    (heading (length cs) refl (w .same, refl) refl)
     (forward-cols rs [] cs (suc k) third (good t) (w .cols-stand) o)) in
     subst⁻¹ (λ x. Reads start 1 x (good t)) (append-assoc (ended (rowsHead ++ text (length rs))) (labelLines rs) second)
     (next {st = start} (rowsHead ++ text (length rs)) (labelLines rs ++ second) (inRows (length rs) [])
@@ -321,4 +317,4 @@ written-is-read t w =
 -- one labelled table has one sheet, and one sheet at most one labelled table
 pub sheet-once : (a b : Labelled) → Stands a → Stands b → sheetOf a ≡ sheetOf b → a ≡ b
 sheet-once a b p q e =
-    good-once a b (reads-once (written-is-read a p) (subst⁻¹ (λ x. Reads start 1 x (good b)) e (written-is-read b q)))
+    good-once (written-is-read a p) (subst⁻¹ (λ x. Reads start 1 x (good b)) e (written-is-read b q))

@@ -1,12 +1,11 @@
 -- A sheet has one reading only. Assumes nothing.
-use mathlib.Core.Path.{_≡_, refl, sym, ap, subst, subst⁻¹, _∙_}
-use mathlib.Core.List.{List, [], _∷_, _++_}
-use Prim.Native.Nat.{ℕ, zero, suc, _+_, _-_, _*_, _<_, _≤_}
+use mathlib.Core.Path.{_≡_, sym, ap, subst, subst⁻¹, _∙_}
+use mathlib.Core.List.{List}
+use Prim.Native.Nat.{ℕ, suc, _+_, _*_}
 use native.Mathlib.Omega.{arith}
-use lib.IntN.{ℤ}
 use lib.ListN.{length}
-use Rattle.sheet.specs.Text.{Each, feed}
-use Rattle.sheet.specs.Reading.{Ended, State, After, heading, row-label, col-label, order-line, begun, withRow, withCol, withOrder, Final, Outcome, good, wrong, tableOf, Reads, done, short, unfit, next}
+use Rattle.sheet.specs.Sheet.{Labelled}
+use Rattle.sheet.specs.Reading.{Ended, State, After, heading, row-label, col-label, order-line, begun, withRow, withCol, withOrder, Outcome, good, wrong, Reads, done, short, unfit, next}
 use Rattle.sheet.proofs.Lines.{ended-once, unbroken-unended, none-unended, heading-once, order-once}
 
 -- what a line says after those before it
@@ -62,3 +61,13 @@ reads-once {st = st} {k = k} {s = s} {b = b} (next l r t d a m) (next l′ r′ 
     let h = ended-once s l r l′ r′ d d′ in
     let e : t ≡ t′ = after-once st l t t′ a (subst⁻¹ (λ x. After st x t′) (h .0) a′) in
     reads-once m (subst⁻¹ (λ x. Reads t (suc k) x b) (h .1) (subst⁻¹ (λ x. Reads x (suc k) r′ b) e m′))
+
+-- so bytes are the sheet of one table at most, are wrong in one line at most, and are not both
+pub good-once : {st : State} {n : ℕ} {s : List ℕ} {t u : Labelled} → Reads st n s (good t) → Reads st n s (good u) → t ≡ u
+good-once p q = let e = reads-once p q in cc
+
+pub wrong-once : {st : State} {n : ℕ} {s : List ℕ} {j k : ℕ} → Reads st n s (wrong j) → Reads st n s (wrong k) → j ≡ k
+wrong-once p q = let e = reads-once p q in cc
+
+pub good-not-wrong {ℓ} : {A : Type ℓ} {st : State} {n : ℕ} {s : List ℕ} {t : Labelled} {k : ℕ} → Reads st n s (good t) → Reads st n s (wrong k) → A
+good-not-wrong p q = let e = reads-once p q in absurd (let z : _≡_ {A = ℕ} 0 1 = cc in omega arith)

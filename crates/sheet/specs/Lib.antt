@@ -3,4 +3,3 @@ pub mod Text
 pub mod Labels
 pub mod Sheet
 pub mod Reading
-pub mod Answer

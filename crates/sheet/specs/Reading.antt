@@ -6,7 +6,7 @@ use mathlib.Core.List.{List, [], _∷_, _++_}
 use Prim.Native.Nat.{ℕ, zero, suc, _+_, _-_, _*_, _≤_, _<_}
 use lib.IntN.{ℤ}
 use lib.ListN.{length, replicate}
-use Rattle.theory.specs.Limits.{rows, order}
+use Rattle.theory.specs.Limits.{rows, order, sheet}
 use Rattle.theory.specs.Table.{absent, Order}
 use Rattle.sheet.specs.Text.{feed, text, Each, rowsHead, colsHead, ordersHead}
 use Rattle.sheet.specs.Labels.{Form, New}
@@ -33,7 +33,7 @@ start = record { section = 0; left = 0; row-labels = []; col-labels = []; entrie
 -- "N is 1 to 32, K is 0 to N × N"
 abbrev pub Heading : ℕ → ℕ → ℕ → List ℕ → Type 0
 Heading zero n c l = (1 ≤ c) × (c ≤ rows) × (l ≡ rowsHead ++ text c)
-Heading (suc zero) n c l = (n ≤ c) × (c ≤ n) × (l ≡ colsHead ++ text c)
+Heading (suc zero) n c l = (c ≡ n) × (l ≡ colsHead ++ text c)
 Heading (suc (suc zero)) n c l = (0 ≤ c) × (c ≤ n * n) × (l ≡ ordersHead ++ text c)
 Heading (suc (suc (suc s))) n c l = ⊥
 
@@ -122,3 +122,12 @@ pub data Reads : State → ℕ → List ℕ → Outcome → Type 0 where
   -- a line that can stand
   next : {st : State} {k : ℕ} {s : List ℕ} {o : Outcome} (l rest : List ℕ) (st′ : State) → Ended s l rest → After st l st′ → Reads st′ (suc k) rest o
       → Reads st k s o
+
+-- ---- the refusals of a sheet
+-- 9: "a sheet is longer than 12,288 bytes"
+abbrev pub TooLong : List ℕ → Type 0
+TooLong s = sheet < length s
+
+-- 10: "a line of a sheet is wrong", "and its number (from 1) is reported"
+abbrev pub WrongLine : List ℕ → ℕ → Type 0
+WrongLine s k = Reads start 1 s (wrong k)

@@ -1,14 +1,14 @@
 -- A table with labels, and its one sheet.
 use mathlib.Core.Path.{_≡_}
-use mathlib.Core.Bool.{Bool, true, false, cond}
+use mathlib.Core.Bool.{Bool, false, cond}
 use mathlib.Core.List.{List, [], _∷_, _++_}
-use Prim.Native.Nat.{ℕ, zero, suc, _+_, _*_, _/_, _%_, _≤_}
+use Prim.Native.Nat.{ℕ, suc, _+_, _*_, _/_, _%_, _≤_}
 use lib.Dec.{eqb}
 use lib.IntN.{ℤ, pos, negsuc}
 use lib.ListN.{length}
 use Rattle.theory.specs.Limits.{rows, order}
-use Rattle.theory.specs.Table.{Entries}
-use Rattle.sheet.specs.Text.{blank, feed, text, signed, ended, rowsHead, colsHead, ordersHead}
+use Rattle.theory.specs.Table.{absent, Entries}
+use Rattle.sheet.specs.Text.{blank, text, signed, ended, rowsHead, colsHead, ordersHead}
 use Rattle.sheet.specs.Labels.{Labels}
 
 -- labels of the rows and of the columns, and the entries row by row
@@ -32,10 +32,16 @@ unfoldable pub labelLines : List (List ℕ) → List ℕ
 labelLines [] = []
 labelLines (l ∷ ls) = ended l ++ labelLines ls
 
+-- are two entries the same?
+abbrev pub same : ℤ → ℤ → Bool
+same (pos m) (pos n) = eqb m n
+same (pos m) (negsuc n) = false
+same (negsuc m) (pos n) = false
+same (negsuc m) (negsuc n) = eqb m n
+
 -- is an entry absent?
 abbrev pub isAbsent : ℤ → Bool
-isAbsent (pos n) = false
-isAbsent (negsuc n) = eqb n 32767
+isAbsent v = same v absent
 
 -- how many places of a table are present
 unfoldable pub presentCount : List ℤ → ℕ

@@ -10,69 +10,77 @@ use lib.IntN.{ℤ, pos}
 use lib.ListN.{length, getD, take, replicate, length-replicate}
 use Rattle.theory.specs.Limits.{rows, order, sheet}
 use Rattle.theory.specs.Table.{absent, Entries}
+use Rattle.orders.specs.Refusals.{Said, gives, refuses}
+use Rattle.orders.proofs.Refusals.{given-once, not-both}
+use Rattle.handed.proofs.Basics.{in-size}
 use Rattle.sheet.specs.Text.{over}
 use Rattle.sheet.specs.Labels.{LetterOrDigit, small, width, Form, Labels, slots}
 use Rattle.sheet.specs.Sheet.{Labelled, Stands, isAbsent, sheetOf}
-use Rattle.sheet.specs.Answer.{Answer, gives, refuses}
 use Rattle.sheet.proofs.Slots.{slots-length, slots-once, labels-short}
 use Rattle.sheet.proofs.Orders.{entries-one}
 use Rattle.sheet.proofs.Matching.{written-is-read, sheet-once}
 use Rattle.reader.specs.Promise as reading
 use Rattle.reader.specs.Promise.{Lent, lent, written, ReadPromise, read}
+use Rattle.reader.proofs.PromiseLaws.{all-clear as read-clear}
 use Rattle.reader.proofs.Unique as reader
 use Rattle.writer.specs.Promise as writing
-use Rattle.writer.specs.Promise.{Handed, handed, WritePromise, wrote}
+use Rattle.writer.specs.Promise.{Model, model, Labelling, WritePromise, wrote}
+use Rattle.writer.proofs.Refusing.{all-clear as write-clear}
 use Rattle.writer.proofs.Unique as writer
 use Rattle.sheet_round.proofs.Bound.{sheet-fits}
-use Rattle.sheet_round.proofs.Round.{clash, gives-once, front}
+use Rattle.sheet_round.proofs.Round.{front}
 
 -- ---- at every labelled table within the limits
 -- the reader's promise leaves one answer and one memory open at the sheet of a table: N and the table itself
-read-only : (t : Labelled) → Stands t → (m m′ : Lent) (a : Answer) → reading.Wanted m → ReadPromise (sheetOf t) m m′ a
+read-only : (t : Labelled) → Stands t → (m m′ : Lent) (a : Said ℕ) → reading.Wanted m → ReadPromise (sheetOf t) m m′ a
     → reader.Same a (gives (length (t .row-labels))) m′ (written t m)
 read-only t st m m′ a w p =
     reader.promise-once (sheetOf t) m m′ (written t m) a (gives (length (t .row-labels))) p
-    (read t w (sheet-fits t st) (written-is-read t st) refl refl)
+    (read t (read-clear (sheetOf t) m w (sheet-fits t st)) (written-is-read t st) refl refl)
 
 -- the call of the writer that hands it the table t
-abbrev pub handing : Labelled → Handed
-handing t = handed (length (t .row-labels)) (t .entries) (slots (t .row-labels)) (slots (t .col-labels))
+abbrev pub handing : Labelled → Model
+handing t = model (length (t .row-labels)) (t .entries) (slots (t .row-labels)) (slots (t .col-labels))
 
 -- and the writer's promise leaves open the length of the sheet, and the sheet over the front of the room
-write-only : (t : Labelled) → Stands t → (o o′ : List ℕ) (a : Answer) → length (sheetOf t) ≤ length o → WritePromise (handing t) o o′ a
+write-only : (t : Labelled) → Stands t → (o o′ : List ℕ) (a : Said ℕ) → length (sheetOf t) ≤ length o → WritePromise (handing t) o o′ a
     → writer.Same a (gives (length (sheetOf t))) o′ (over (sheetOf t) o)
 write-only t st o o′ a f p =
     writer.promise-once (handing t) o o′ (over (sheetOf t) o) a (gives (length (sheetOf t))) p
-    (wrote (record { some = st .some; few = st .few })
+    (wrote t
+    (write-clear (handing t) o (in-size (λ z. omega (arith, st .some)) (st .few))
     (record {
       table-length = st .square;
       rows-length = slots-length (t .row-labels) (labels-short (t .row-labels) (st .rows-stand));
       cols-length = slots-length (t .col-labels) (labels-short (t .col-labels) (st .cols-stand)) ∙ ap (λ x. width * x) (st .same);
     })
-    (st .entries-stand) t
-    (record { rows-are = refl; cols-are = refl; rows-stand = st .rows-stand; cols-stand = st .cols-stand; entries-are = refl }) f refl refl)
+    (st .entries-stand) t is f)
+    is refl refl)
+  where
+    is : Labelling (handing t) t
+    is = record { rows-are = refl; cols-are = refl; rows-stand = st .rows-stand; cols-stand = st .cols-stand; entries-are = refl }
 
 -- no refusal, by whatever number and values, meets the reader's promise at the sheet of a table
 pub no-sheet-is-refused : (t : Labelled) → Stands t → (m m′ : Lent) (k : ℕ) (v : List ℕ) → reading.Wanted m
     → ReadPromise (sheetOf t) m m′ (refuses k v) → ⊥
 no-sheet-is-refused t st m m′ k v w p =
-    clash (length (t .row-labels)) k v (sym (read-only t st m m′ (refuses k v) w p .answer))
+    not-both (length (t .row-labels)) k v (sym (read-only t st m m′ (refuses k v) w p .answer))
 
 -- nor the writer's promise at a table, with room for its sheet
 pub no-table-is-refused : (t : Labelled) → Stands t → (o o′ : List ℕ) (k : ℕ) (v : List ℕ) → length (sheetOf t) ≤ length o
     → WritePromise (handing t) o o′ (refuses k v) → ⊥
 no-table-is-refused t st o o′ k v f p =
-    clash (length (sheetOf t)) k v (sym (write-only t st o o′ (refuses k v) f p .answer))
+    not-both (length (sheetOf t)) k v (sym (write-only t st o o′ (refuses k v) f p .answer))
 
 -- One answer with one memory after the call, whatever was lent before it, is right at the sheet of one table at most: N is the answer,
 -- and the first N × N entries and 8 × N bytes of the labels are the table.
-pub one-answer-one-table : (a b : Labelled) → Stands a → Stands b → (m p m′ : Lent) (x : Answer) → reading.Wanted m → reading.Wanted p
+pub one-answer-one-table : (a b : Labelled) → Stands a → Stands b → (m p m′ : Lent) (x : Said ℕ) → reading.Wanted m → reading.Wanted p
     → ReadPromise (sheetOf a) m m′ x → ReadPromise (sheetOf b) p m′ x → a ≡ b
 one-answer-one-table a b sa sb m p m′ x wm wp f g =
     let u = read-only a sa m m′ x wm f in
     let v = read-only b sb p m′ x wp g in
     let n : length (b .row-labels) ≡ length (a .row-labels) =
-    gives-once (length (b .row-labels)) (length (a .row-labels)) (sym (v .answer) ∙ u .answer) in
+    given-once (length (b .row-labels)) (length (a .row-labels)) (sym (v .answer) ∙ u .answer) in
     let same : written a m ≡ written b p = sym (u .memory) ∙ v .memory in
     let e : a .entries ≡ b .entries =
     fronts (a .entries) (m .table) (b .entries) (p .table) (ap (λ y. y .table) same)
@@ -103,13 +111,13 @@ one-answer-one-table a b sa sb m p m′ x wm wp f g =
         slots-length x (labels-short x p) ∙ ap (λ z. width * z) l ∙ sym (slots-length y (labels-short y q))
 
 -- the same of the writer: one answer with one room after the call is right for one table at most
-pub one-sheet-one-table : (a b : Labelled) → Stands a → Stands b → (o p o′ : List ℕ) (x : Answer) → length (sheetOf a) ≤ length o
+pub one-sheet-one-table : (a b : Labelled) → Stands a → Stands b → (o p o′ : List ℕ) (x : Said ℕ) → length (sheetOf a) ≤ length o
     → length (sheetOf b) ≤ length p → WritePromise (handing a) o o′ x → WritePromise (handing b) p o′ x → a ≡ b
 one-sheet-one-table a b sa sb o p o′ x fa fb f g =
     let u = write-only a sa o o′ x fa f in
     let v = write-only b sb p o′ x fb g in
     let k = length (sheetOf a) in
-    let n : length (sheetOf b) ≡ k = gives-once (length (sheetOf b)) k (sym (v .answer) ∙ u .answer) in
+    let n : length (sheetOf b) ≡ k = given-once (length (sheetOf b)) k (sym (v .answer) ∙ u .answer) in
     sheet-once a b sa sb
     (sym (front (sheetOf a) o k refl) ∙ ap (λ y. take k y) (sym (u .memory) ∙ v .memory) ∙ front (sheetOf b) p k n)
 
@@ -197,12 +205,12 @@ pub refusing-writer-is-shut-out : (o o′ : List ℕ) (k : ℕ) (v : List ℕ) �
 refusing-writer-is-shut-out o o′ k v f p = no-table-is-refused nought nought-stands o o′ k v f p
 
 -- "or gives back one empty table": what is right at the sheet of the empty table is wrong at the sheet of the table `0`
-pub one-table-is-shut-out : (m m′ : Lent) (a : Answer) → reading.Wanted m → ReadPromise (sheetOf empty) m m′ a → ReadPromise (sheetOf nought) m m′ a → ⊥
+pub one-table-is-shut-out : (m m′ : Lent) (a : Said ℕ) → reading.Wanted m → ReadPromise (sheetOf empty) m m′ a → ReadPromise (sheetOf nought) m m′ a → ⊥
 one-table-is-shut-out m m′ a w f g =
     empty-is-not-nought (one-answer-one-table empty nought empty-stands nought-stands m m m′ a w w f g)
 
 -- and a writer that gives one sheet is wrong for one of these tables
-pub one-sheet-is-shut-out : (o o′ : List ℕ) (a : Answer) → length (sheetOf empty) ≤ length o → length (sheetOf nought) ≤ length o
+pub one-sheet-is-shut-out : (o o′ : List ℕ) (a : Said ℕ) → length (sheetOf empty) ≤ length o → length (sheetOf nought) ≤ length o
     → WritePromise (handing empty) o o′ a → WritePromise (handing nought) o o′ a → ⊥
 one-sheet-is-shut-out o o′ a x y f g =
     empty-is-not-nought (one-sheet-one-table empty nought empty-stands nought-stands o o o′ a x y f g)

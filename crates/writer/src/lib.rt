@@ -10,7 +10,7 @@ ghost use Rattle.sheet.specs.Text.{text, signed, ended, blank};
 ghost use Rattle.sheet.specs.Sheet.{presentCount, labelLines, orderLine, orderLines, orderSection};
 ghost use Rattle.lettering.specs.Putting.{Puts};
 ghost use Rattle.writer.specs.Parts.{labelOf, labelsOf, SlotStands, BufferStands, Tested, EntryTested, restText, sheetText};
-ghost use Rattle.writer.specs.Promise.{WritePromise, handed, says};
+ghost use Rattle.writer.specs.Promise.{WritePromise, model, says};
 use lettering::digits;
 use lettering::magnitude;
 use lettering::put;
@@ -278,7 +278,7 @@ fn put_sheet(n: usize, table: &[i16], rows: &[u8], cols: &[u8], out: &mut [u8]) 
 // writes any but the one sheet of what it was handed, that writes into a room before it knows that the sheet fits, or that touches
 // bytes after the sheet.
 pub fn write_sheet(n: usize, table: &[i16], rows: &[u8], cols: &[u8], out: &mut [u8]) -> Written
-    ensures { λ r. ⌜ WritePromise (handed n (now (table .entry)) (now (rows .entry)) (now (cols .entry))) (now (out .entry)) (now (out .exit)) (says r) ⌝ }
+    ensures { λ r. ⌜ WritePromise (model n (now (table .entry)) (now (rows .entry)) (now (cols .entry))) (now (out .entry)) (now (out .exit)) (says r) ⌝ }
 {
     if n == 0 {
         return Written::Refused(Refusal::Size);

@@ -3,9 +3,8 @@ use borrow.Author.Needs.{needs}
 use Rattle.exports.proofs.canon_read_sheet.Statement.{statement}
 use Rattle.exports.proofs.canon_read_sheet.Tie as tie
 use Rattle.reader.specs.Promise.{says}
-use Rattle.reader.specs.declared.Read.{Read}
 use Rattle.exports.proofs.Lines.{line-said, other-said}
-use Rattle.exports.specs.Told.{read, at-line, refused, spoken}
+use Rattle.exports.specs.Told.{read, at-line, refused}
 
 read-sheet-requires : tie.Need-read-sheet-requires
 read-sheet-requires c κs = search needs
@@ -34,7 +33,7 @@ same-length-3 c = search needs
 returns : tie.Need-returns
 returns c =
     let s = c .before .before .before .before .before .before .before .before .read-sheet in
-    record { answer = s .result; promised = s .ensures; told = read _ (ap (λ (a : Read). spoken (says a)) (c .before .answer .given .1)) refl refl refl }
+    record { answer = s .result; promised = s .ensures; told = read _ (ap says (c .before .answer .given .1)) refl refl refl }
 
 same-length-4 : tie.Need-same-length-4
 same-length-4 c = search needs

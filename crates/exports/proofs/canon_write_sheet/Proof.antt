@@ -3,8 +3,7 @@ use borrow.Author.Needs.{needs}
 use Rattle.exports.proofs.canon_write_sheet.Statement.{statement}
 use Rattle.exports.proofs.canon_write_sheet.Tie as tie
 use Rattle.writer.specs.Promise.{says}
-use Rattle.writer.specs.declared.Written.{Written}
-use Rattle.exports.specs.Told.{gave, kept-back, spoken}
+use Rattle.exports.specs.Told.{gave, kept-back}
 
 write-sheet-requires : tie.Need-write-sheet-requires
 write-sheet-requires c κs = search needs
@@ -24,7 +23,7 @@ same-length c = search needs
 returns : tie.Need-returns
 returns c =
     let s = c .before .before .before .before .before .write-sheet in
-    record { answer = s .result; promised = s .ensures; told = gave _ (ap (λ (a : Written). spoken (says a)) (c .before .answer .given .1)) refl refl }
+    record { answer = s .result; promised = s .ensures; told = gave _ (ap says (c .before .answer .given .1)) refl refl }
 
 same-length-2 : tie.Need-same-length-2
 same-length-2 c = search needs
@@ -32,7 +31,7 @@ same-length-2 c = search needs
 returns-2 : tie.Need-returns-2
 returns-2 c =
     let s = c .before .before .before .before .before .before .write-sheet in
-    record { answer = s .result; promised = s .ensures; told = kept-back _ _ (ap (λ (a : Written). spoken (says a)) (c .before .before .answer2 .given .1)) (c .number .ensures) refl }
+    record { answer = s .result; promised = s .ensures; told = kept-back _ _ (ap says (c .before .before .answer2 .given .1)) (c .number .ensures) refl }
 
 pub canon-write-sheet-spec : {M : Type 1} → statement M
 canon-write-sheet-spec =

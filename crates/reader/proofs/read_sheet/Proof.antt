@@ -1,21 +1,20 @@
 -- The reader tests lengths, walks the sheet, and copies out what was kept. Assumes nothing.
 use borrow.Author.Needs.{needs}
 use native.Mathlib.Omega.{arith}
-use mathlib.Core.Path.{refl}
-use Rattle.reader.specs.Promise.{lent, refused, wrong-length, too-long, wrong-line}
+use Rattle.reader.specs.Promise.{lent}
 use Rattle.reader.proofs.WalkLaws.{holds-nothing, rows-few, places-few, table-whole, labels-whole}
-use Rattle.reader.proofs.PromiseLaws.{wanted, read-surplus, read-good}
+use Rattle.reader.proofs.PromiseLaws.{wanted, refuse-length, refuse-long, refuse-line, read-surplus, read-good}
 use Rattle.reader.proofs.read_sheet.Statement.{statement}
 use Rattle.reader.proofs.read_sheet.Tie as tie
 
 returns : tie.Need-returns
-returns c = refused (wrong-length (λ w. c .if1 .taken (w .table-length)) refl) refl
+returns c = refuse-length _ _ (λ w. c .if1 .taken (w .table-length))
 
 returns-2 : tie.Need-returns-2
-returns-2 c = refused (wrong-length (λ w. c .if2 .taken (w .rows-length)) refl) refl
+returns-2 c = refuse-length _ _ (λ w. c .if2 .taken (w .rows-length))
 
 returns-3 : tie.Need-returns-3
-returns-3 c = refused (wrong-length (λ w. c .if3 .taken (w .cols-length)) refl) refl
+returns-3 c = refuse-length _ _ (λ w. c .if3 .taken (w .cols-length))
 
 returns-4 : tie.Need-returns-4
 returns-4 c =
@@ -24,8 +23,8 @@ returns-4 c =
     let if2′ = c .before .before .if2 in
     let if3′ = c .before .if3 in
     let if4′ = c .if4 in
-    refused (too-long (wanted (args′ .table .now) (args′ .rows .now) (args′ .cols .now) (if1′ .left) (if2′ .left) (if3′ .left))
-    (if4′ .taken) refl) refl
+    refuse-long _ _ (wanted (args′ .table .now) (args′ .rows .now) (args′ .cols .now) (if1′ .left) (if2′ .left) (if3′ .left))
+    (if4′ .taken)
 
 walk-requires : tie.Need-walk-requires
 walk-requires c κs = holds-nothing
@@ -39,8 +38,8 @@ returns-5 c =
     let if4′ = c .before .before .before .before .before .if4 in
     let walk′ = c .before .walk in
     let if5′ = c .if5 in
-    refused (wrong-line _ (wanted (args′ .table .now) (args′ .rows .now) (args′ .cols .now) (if1′ .left) (if2′ .left) (if3′ .left))
-    (if4′ .left) (walk′ .ensures .stopped (if5′ .taken)) refl) refl
+    refuse-line _ _ (wanted (args′ .table .now) (args′ .rows .now) (args′ .cols .now) (if1′ .left) (if2′ .left) (if3′ .left))
+    (if4′ .left) _ (walk′ .ensures .stopped (if5′ .taken))
 
 returns-6 : tie.Need-returns-6
 returns-6 c =

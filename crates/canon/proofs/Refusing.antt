@@ -1,17 +1,17 @@
 -- Which refusal is the lowest that applies, from what the tests told. Assumes nothing.
 use mathlib.Core.Path.{_≡_, refl, sym, _∙_, ap}
-use mathlib.Core.Logic.{_⊎_, inl, inr}
+use mathlib.Core.Logic.{inl, inr}
 use mathlib.Core.Bool.{true, false}
 use mathlib.Core.List.{List, [], _∷_}
-use Prim.Native.Nat.{ℕ, _*_, _≤_, _<_}
+use Prim.Native.Nat.{ℕ, _≤_, _<_}
 use native.Mathlib.Omega.{arith}
 use lib.IntN.{ℤ}
 use lib.ListN.{length}
-use Rattle.theory.specs.Limits.{order, handed}
+use Rattle.theory.specs.Limits.{handed}
 use Rattle.theory.specs.Lists.{nums}
-use Rattle.theory.specs.Table.{entry, Entries}
+use Rattle.theory.specs.Table.{entry}
 use Rattle.theory.specs.Canon.{Transversal, Canon, Simplest}
-use Rattle.orders.specs.Places.{Square, Marks}
+use Rattle.orders.specs.Places.{Marks}
 use Rattle.orders.specs.Refusals.{numberOf, Test, Lowest, Clear, gives, refuses}
 use Rattle.orders.specs.declared.Refusal.{Refusal}
 use Rattle.handed.specs.Conditions.{Fitting, basic, canon-more, canon-tests}

@@ -21,7 +21,7 @@ use Rattle.printing.specs.Promise.{PrintPromise}
 use Rattle.printing.specs.Promise as printing
 use Rattle.printing.specs.declared.Printed.{Printed}
 use Rattle.printing.proofs.Unique.{print-once}
-use Rattle.exports.specs.Told.{Tells, gave, kept-back, itself, bit, Told, TellsRead, read, at-line, refused, ToldRead}
+use Rattle.exports.specs.Told.{Returns, gave, kept-back, itself, bit, Told, ReturnsRead, read, at-line, refused, ToldRead}
 
 -- what an answer is returned as
 abbrev number : {X : Type 0} → Said X → ℕ
@@ -34,7 +34,7 @@ held code before (gives x) = code x
 held code before (refuses k values) = before
 
 -- a single result and what is returned follow from the answer
-tells-is : {X Y : Type 0} {code : X → Y} {s : Said X} {r : ℕ} {before after : Y} → Tells code s r before after → (r ≡ number s) × (after ≡ held code before s)
+tells-is : {X Y : Type 0} {code : X → Y} {s : Said X} {r : ℕ} {before after : Y} → Returns code s r before after → (r ≡ number s) × (after ≡ held code before s)
 tells-is {code = code} {before = before} (gave x e r a) = (r ∙ sym (ap number e), a ∙ sym (ap (held code before) e))
 tells-is {code = code} {before = before} (kept-back k values e r a) = (r ∙ sym (ap number e), a ∙ sym (ap (held code before) e))
 
@@ -91,7 +91,7 @@ line-held line (gives k) = line
 line-held line (refuses k []) = line
 line-held line (refuses k (v ∷ vs)) = v
 
-tells-read-is : {s : Said ℕ} {r n line n′ line′ : ℕ} → TellsRead s r n line n′ line′ → (r ≡ number s) × (n′ ≡ n-held n s) × (line′ ≡ line-held line s)
+tells-read-is : {s : Said ℕ} {r n line n′ line′ : ℕ} → ReturnsRead s r n line n′ line′ → (r ≡ number s) × (n′ ≡ n-held n s) × (line′ ≡ line-held line s)
 tells-read-is {n = n} {line = line} (read k e r a b) = (r ∙ sym (ap number e), a ∙ sym (ap (n-held n) e), b ∙ sym (ap (line-held line) e))
 tells-read-is {n = n} {line = line} (at-line k e r a b) = (r ∙ sym (ap number e), a ∙ sym (ap (n-held n) e), b ∙ sym (ap (line-held line) e))
 tells-read-is {n = n} {line = line} (refused k e r a b) = (r ∙ sym (ap number e), a ∙ sym (ap (n-held n) e), b ∙ sym (ap (line-held line) e))

@@ -1,7 +1,7 @@
 -- The two lemmas that carry the growing: G1, a rise of the tree passes no canon, and G2, a tree with no way out means that there is
 -- no complete transversal. Assumes nothing.
 use mathlib.Core.Path.{_≡_, refl, ap}
-use mathlib.Core.Bool.{Bool, true, false, not}
+use mathlib.Core.Bool.{Bool, true, false}
 use Prim.Native.Nat.{ℕ, zero, suc, _+_, _≤_, _<_}
 use native.Mathlib.Decide.{decLe, decLt}
 use native.Mathlib.Omega.{arith}

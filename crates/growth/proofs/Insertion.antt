@@ -1,7 +1,7 @@
 -- The steps of an insertion, over functions of rows and columns: the tree begins at one row; a row joins it and the gaps take it in;
 -- the tree rises; it joins the marked row of the column that became tight, or the way back begins there. Assumes nothing.
 use mathlib.Core.Path.{_≡_, refl, sym, _∙_, ap}
-use mathlib.Core.Bool.{Bool, true, false, not}
+use mathlib.Core.Bool.{Bool, true, false}
 use mathlib.Core.Logic.{_≢_, inl, inr}
 use Prim.Native.Nat.{ℕ, suc, _+_, _*_, _≤_, _<_}
 use native.Mathlib.Decide.{ℕ-discrete, decLt}

@@ -1,10 +1,9 @@
 -- What the tests in code tell of what is handed in.
 use mathlib.Core.Path.{_≡_}
-use mathlib.Core.Bool.{Bool, true, false}
+use mathlib.Core.Bool.{true, false}
 use mathlib.Core.List.{List, []}
-use Prim.Native.Nat.{ℕ, _*_, _≤_, _<_}
+use Prim.Native.Nat.{ℕ, _<_}
 use lib.IntN.{ℤ}
-use lib.ListN.{length}
 use Rattle.theory.specs.Limits.{rows, order}
 use Rattle.theory.specs.Lists.{nums, columns, StarList}
 use Rattle.theory.specs.Table.{Entries}

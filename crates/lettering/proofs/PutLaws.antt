@@ -1,12 +1,12 @@
 -- A room that is written from the front, text after text. Assumes nothing.
 use mathlib.Core.Path.{_≡_, refl, sym, ap, subst, _∙_}
 use mathlib.Core.List.{List, [], _∷_, _++_, append-assoc, append-nil}
-use Prim.Native.Nat.{ℕ, zero, suc, _+_, _-_, _*_, _/_, _%_, _<_, _≤_}
+use Prim.Native.Nat.{ℕ, suc, _+_, _-_, _/_, _%_, _<_, _≤_}
 use native.Mathlib.Omega.{arith}
 use native.Mathlib.Numerals.{add-one}
 use lib.ListN.{length, getD, set, take, drop, drop-of-length-le, length-drop, length-append}
 use lib.Seq.{drop-drop, drop-at, take-at, take-all, drop-cons, set-at}
-use Rattle.sheet.specs.Text.{over, text, ended}
+use Rattle.sheet.specs.Text.{over, text}
 use Rattle.sheet.proofs.Numbers.{text-small, text-large}
 use mir.Syntax.{w64}
 use mir.Val.{Fits}

@@ -1,6 +1,6 @@
 ghost use mathlib.Core.Path.{_≡_};
-ghost use mathlib.Core.List.{List, [], _∷_, _++_};
-ghost use Prim.Native.Nat.{ℕ, _+_, _≤_};
+ghost use mathlib.Core.List.{[], _∷_, _++_};
+ghost use Prim.Native.Nat.{_+_, _≤_};
 ghost use lib.IntN.{natAbs};
 ghost use lib.ListN.{length};
 ghost use Rattle.sheet.specs.Text.{text, signed, ended};

@@ -1,17 +1,16 @@
 -- The fall from a canon to the least canon above the floors, over functions. Assumes nothing.
-use mathlib.Core.Path.{_≡_, refl, sym, _∙_}
+use mathlib.Core.Path.{_≡_, refl, _∙_}
 use mathlib.Core.Logic.{_⊎_, inl, inr}
 use mathlib.Core.Bool.{Bool, true, false}
 use mathlib.Core.List.{List}
-use Prim.Native.Nat.{ℕ, zero, suc, _+_, _-_, _≤_, _<_}
-use native.Mathlib.Decide.{ℕ-discrete}
+use Prim.Native.Nat.{ℕ, _+_, _-_, _≤_, _<_}
 use native.Mathlib.Omega.{arith}
 use lib.IntN.{ℤ, pos, _+ℤ_}
 use lib.Signed.{_≤ℤ_}
 use lib.ListN.{length, set, length-set, replicate, length-replicate}
 use Rattle.theory.specs.Lists.{nums, flags}
 use Rattle.theory.specs.Table.{Present, entry}
-use Rattle.theory.specs.Canon.{raised, Maximum, OfMaxima, Canon, AtLeast, LeastFrom}
+use Rattle.theory.specs.Canon.{OfMaxima, Canon, AtLeast, LeastFrom}
 use Rattle.theory.proofs.Signed.{up, dn, raised-le-ud, ud-raised-le}
 use Rattle.theory.proofs.Duality.{maxima-everywhere}
 use Rattle.orders.specs.Places.{room}

@@ -1,7 +1,4 @@
-ghost use mathlib.Core.Path.{_≡_};
 ghost use Prim.Native.Nat.{ℕ, _≤_, _<_};
-ghost use lib.IntN.{pos, _+ℤ_};
-ghost use lib.Signed.{_≤ℤ_};
 ghost use Rattle.theory.specs.Limits.{rows};
 ghost use Rattle.theory.specs.Lists.{nums, flags};
 ghost use Rattle.theory.specs.Table.{entry};

@@ -7,13 +7,13 @@ use native.Mathlib.Decide.{ℕ-discrete}
 use native.Mathlib.Omega.{arith}
 use lib.Dec.{eqb}
 use lib.IntN.{ℤ, pos, negsuc, _+ℤ_}
-use lib.ListN.{length, getD}
+use lib.ListN.{getD}
 use lib.Signed.{_≤ℤ_, ltZ, leZ, mag}
 use borrow.Author.Tests.{eqb-true, eqb-false}
 use mir.Syntax.{Width, w16, w32}
 use mir.Val.{SFits, ofZ, toZ, hbits}
 use mir.Facts.{toZ-ofZ}
-use Rattle.theory.specs.Table.{absent, Present, Order, Entries}
+use Rattle.theory.specs.Table.{absent, Present, Order}
 use Rattle.theory.proofs.Signed.{signed}
 use Rattle.orders.specs.Tested.{Tells}
 

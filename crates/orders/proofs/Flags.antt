@@ -1,9 +1,9 @@
 -- Flags that are set one after the other: how many are still unset, as a measure. Assumes nothing.
-use mathlib.Core.Path.{_≡_, refl, sym, _∙_, ap}
+use mathlib.Core.Path.{_≡_, refl, sym, _∙_}
 use mathlib.Core.Logic.{_⊎_, inl, inr}
 use mathlib.Core.Bool.{Bool, true, false, cond}
 use mathlib.Core.List.{List}
-use Prim.Native.Nat.{ℕ, zero, suc, _+_, _≤_, _<_}
+use Prim.Native.Nat.{ℕ, zero, suc, _≤_, _<_}
 use native.Mathlib.Decide.{ℕ-discrete}
 use native.Mathlib.Omega.{arith}
 use lib.ListN.{length, getD, set, replicate}
@@ -11,7 +11,6 @@ use lib.Seq.{getD-set-same, getD-set-other}
 use Rattle.theory.specs.Lists.{flags}
 use Rattle.theory.specs.Totals.{totalℕ}
 use Rattle.theory.proofs.Totals.{total-lt}
-use Rattle.orders.proofs.Entries.{clash}
 
 -- a fresh array has its one value everywhere, also past its end if that is what a read there gives
 pub fresh : {X : Type 0} (m i : ℕ) (d : X) → getD (replicate m d) i d ≡ d

@@ -9,15 +9,12 @@ use native.Mathlib.Decide.{ℕ-discrete}
 use native.Mathlib.Omega.{arith}
 use lib.IntN.{ℤ, pos, _+ℤ_, ℤ-discrete}
 use lib.ListN.{length}
-use lib.Signed.{_≤ℤ_, leZ, ≤ℤ-refl}
-use mir.Syntax.{w16, w32}
-use mir.Val.{SFits, ofZ, toZ}
-use mir.Facts.{toZ-ofZ}
+use lib.Signed.{_≤ℤ_, ≤ℤ-refl}
 use Rattle.theory.specs.Lists.{nums}
-use Rattle.theory.specs.Table.{absent, Present, Order, entry, Entries, WithinLimit}
-use Rattle.theory.specs.Canon.{Head, Maximum}
-use Rattle.theory.proofs.Signed.{plus, signed}
-use Rattle.orders.specs.Places.{Square, TopOf, Taller}
+use Rattle.theory.specs.Table.{absent, Present, entry, Entries, WithinLimit}
+use Rattle.theory.specs.Canon.{Head}
+use Rattle.theory.proofs.Signed.{signed}
+use Rattle.orders.specs.Places.{TopOf, Taller}
 use Rattle.orders.specs.declared.Top.{Top}
 use Rattle.orders.proofs.Entries.{clash}
 

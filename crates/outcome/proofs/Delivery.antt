@@ -1,12 +1,12 @@
 -- What is copied out of the whole answer. Assumes nothing.
 use mathlib.Core.Path.{_≡_, sym, _∙_, ap}
 use mathlib.Core.List.{List}
-use Prim.Native.Nat.{ℕ, _+_, _-_, _≤_, _<_, min}
+use Prim.Native.Nat.{ℕ, _-_, _≤_, _<_, min}
 use native.Mathlib.Omega.{arith}
 use lib.IntN.{ℤ, pos}
-use lib.ListN.{length, getD, take, length-take}
+use lib.ListN.{length, take, length-take}
 use lib.Seq.{getD-take}
-use Rattle.theory.specs.Lists.{nums, ints, columns, StarList}
+use Rattle.theory.specs.Lists.{nums, columns, StarList}
 use Rattle.theory.specs.Table.{entry}
 use Rattle.theory.specs.Canon.{Stars}
 use Rattle.theory.proofs.Unique.{stars-rows, sum-same}

@@ -1,8 +1,8 @@
 -- The heads, the sum and the numbers of the stars. Assumes nothing.
-use mathlib.Core.Path.{_≡_, refl, sym, _∙_, ap}
+use mathlib.Core.Path.{_≡_, refl, _∙_}
 use mathlib.Core.Bool.{Bool, true, false}
 use mathlib.Core.List.{List}
-use Prim.Native.Nat.{ℕ, zero, suc, _+_, _-_, _*_, _≤_, _<_}
+use Prim.Native.Nat.{ℕ, _+_, _-_, _*_, _≤_, _<_}
 use native.Mathlib.Numerals.{add-one}
 use native.Mathlib.Omega.{arith}
 use lib.IntN.{ℤ, pos, negsuc, _+ℤ_}
@@ -16,7 +16,6 @@ use Rattle.theory.specs.Canon.{Head, Heads, OfMaxima, Stars, sum}
 use Rattle.theory.proofs.Signed.{plus, signed, below-zero}
 use Rattle.orders.specs.Places.{TopOf, Marks}
 use Rattle.orders.specs.declared.Top.{Top}
-use Rattle.orders.proofs.Entries.{clash}
 use Rattle.theory.proofs.Unique.{stars-rows, sum-same}
 use Rattle.outcome.specs.Completion.{Occupied, WholeOf}
 

@@ -1,7 +1,7 @@
 -- The whole answer from a canon: heads, first stars and sum.
 use mathlib.Core.Path.{_≡_}
 use mathlib.Core.List.{List}
-use Prim.Native.Nat.{ℕ, _+_, _≤_, _<_}
+use Prim.Native.Nat.{ℕ, _≤_, _<_}
 use lib.IntN.{ℤ}
 use lib.ListN.{length, take}
 use Rattle.theory.specs.Lists.{nums, ints, columns, StarList}

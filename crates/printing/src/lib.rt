@@ -1,12 +1,11 @@
-ghost use mathlib.Core.Path.{_≡_};
-ghost use mathlib.Core.List.{List, [], _∷_, _++_, map};
-ghost use Prim.Native.Nat.{ℕ, _+_, _*_, _<_, _≤_};
+ghost use mathlib.Core.List.{map};
+ghost use Prim.Native.Nat.{_+_, _*_, _<_, _≤_};
 ghost use lib.ListN.{length};
 ghost use Rattle.theory.specs.Limits.{rows};
 ghost use Rattle.orders.specs.Refusals.{gives, refusal};
 ghost use Rattle.sheet.specs.Text.{text, signed, ended};
 ghost use Rattle.sheet.specs.Sheet.{labelLines, labelSection};
-ghost use Rattle.printing.specs.Printed.{Figures, printed};
+ghost use Rattle.printing.specs.Printed.{printed};
 ghost use Rattle.printing.specs.Parts.{PutsShort, part, whole, Follows, Largest, Tabled, Prints};
 ghost use Rattle.printing.specs.Promise.{says, TableSays, SheetSays, PrintPromise};
 use canon::Answer;

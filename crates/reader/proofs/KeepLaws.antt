@@ -10,7 +10,7 @@ use lib.ListN.{length, getD, take, drop, set, replicate, length-append, length-r
 use lib.Seq.{take-at, take-length, take-append-add, drop-append-add, set-split, paste, append-snoc}
 use denote.Enum.Declared.{tagOf}
 use Rattle.orders.specs.Tested.{Tells}
-use Rattle.theory.specs.Limits.{rows, order}
+use Rattle.theory.specs.Limits.{rows}
 use Rattle.theory.specs.Table.{absent}
 use Rattle.sheet.specs.Labels.{width, Form, New, Labels, filled, slots, slot, Repeated}
 use Rattle.sheet.specs.Reading.{State, After, heading, row-label, col-label, order-line, withRow, withCol, withOrder}

@@ -1,34 +1,29 @@
 -- Orders, order lines and headings. Assumes nothing.
-use mathlib.Core.Path.{_≡_, refl, sym, ap, subst, subst⁻¹, _∙_}
-use mathlib.Core.List.{List, [], _∷_, _++_, append-assoc, append-nil}
+use mathlib.Core.Path.{_≡_, refl, sym, ap, subst, _∙_}
+use mathlib.Core.List.{List, _∷_, _++_}
 use Prim.Native.Nat.{ℕ, zero, suc, _+_, _-_, _*_, _<_, _≤_}
 use native.Mathlib.Omega.{arith}
-use native.Mathlib.Decide.{ℕ-discrete}
-use native.Mathlib.Numerals.{add-one}
-use lib.IntN.{ℤ, pos, negsuc, negℤ, _-ℤ_, +ℤ-idl}
+use lib.IntN.{ℤ, pos, negsuc, _-ℤ_, +ℤ-idl}
 use mir.Syntax.{w16}
 use mir.Val.{SFits, ofZ, toZ}
 use mir.Facts.{toZ-ofZ, toZ-pos}
 use native.Mathlib.Nat.{mul-le-mul}
-use lib.ListN.{length, getD, take, drop, take-append-drop, drop-of-length-le, length-append, length-drop, List·getD-append}
-use lib.Seq.{take-suc, drop-cons, getD-take, length-take-le, drop-at, ext-getD}
+use lib.ListN.{length, getD, take, drop, take-append-drop, length-append, List·getD-append}
+use lib.Seq.{drop-cons, getD-take, length-take-le, drop-at, ext-getD}
 use denote.Enum.Declared.{tagOf}
 use Rattle.theory.specs.Limits.{rows, order}
 use Rattle.theory.specs.Table.{Order}
 use Rattle.theory.proofs.Signed.{signed as signs}
-use Rattle.sheet.specs.Text.{Each, blank, text, signed, rowsHead, colsHead, ordersHead}
-use Rattle.sheet.specs.Sheet.{orderText}
-use Rattle.sheet.specs.Reading.{Heading}
-use Rattle.sheet.proofs.Numbers.{Digit, text-digits, text-some, text-once, number-once}
+use Rattle.sheet.specs.Text.{blank, text, signed, rowsHead, colsHead, ordersHead}
+use Rattle.sheet.proofs.Numbers.{text-digits, text-some, text-once, number-once}
 use Rattle.reader.specs.declared.Count.{Count}
 use Rattle.reader.specs.declared.Count.the-variants.{Of, Nothing as NoCount}
 use Rattle.reader.specs.declared.Front.{Front}
 use Rattle.reader.specs.declared.Front.the-variants.{Number, Nothing as NoFront}
 use Rattle.reader.specs.declared.Value.{Value}
 use Rattle.reader.specs.declared.Value.the-variants.{Is, Nothing as NoValue}
-use Rattle.reader.specs.declared.Place.{Place}
-use Rattle.reader.specs.declared.Place.the-variants.{At, Nothing as NoPlace}
-use Rattle.reader.specs.Parts.{CountOf, FieldIs, FieldOf, ValueOf, OrderIs, PlaceOf, CountIs, AfterOf, HeadingOf}
+use Rattle.reader.specs.declared.Place.the-variants.{Nothing as NoPlace}
+use Rattle.reader.specs.Parts.{CountOf, FieldIs, FieldOf, ValueOf, OrderIs, PlaceOf, AfterOf, HeadingOf}
 use Rattle.reader.proofs.Count.{the-type as count-type}
 use Rattle.reader.proofs.Value.{the-type as value-type}
 

@@ -1,22 +1,21 @@
 -- Numbers, fields and orders read from the front of a text. Assumes nothing.
-use mathlib.Core.Path.{_≡_, refl, sym, ap, subst, subst⁻¹, _∙_}
-use mathlib.Core.List.{List, [], _∷_, _++_, append-assoc, append-nil}
-use Prim.Native.Nat.{ℕ, zero, suc, _+_, _-_, _*_, _<_, _≤_}
+use mathlib.Core.Path.{_≡_, refl, sym, ap, subst, _∙_}
+use mathlib.Core.List.{List, [], _∷_, _++_, append-nil}
+use Prim.Native.Nat.{ℕ, suc, _+_, _-_, _*_, _<_, _≤_}
 use native.Mathlib.Omega.{arith}
 use native.Mathlib.Decide.{ℕ-discrete}
 use native.Mathlib.Numerals.{add-one}
 use lib.ListN.{length, getD, take, drop, take-append-drop, drop-of-length-le, length-append, length-drop, List·getD-append}
-use lib.Seq.{take-suc, drop-cons, getD-take, length-take-le}
+use lib.Seq.{take-suc, drop-cons, length-take-le}
 use denote.Enum.Declared.{tagOf}
-use Rattle.sheet.specs.Text.{Each, blank, text}
+use Rattle.sheet.specs.Text.{blank, text}
 use Rattle.sheet.proofs.Bytes.{run-prefix, each-cons, each-one}
-use Rattle.sheet.proofs.Numbers.{Digit, text-small, text-next, text-digits, text-some, text-first, value-text, value-append, value-grows, valueFrom, text-once, number-once}
+use Rattle.sheet.proofs.Numbers.{Digit, text-small, text-next, text-digits, text-some, text-first, value-text, value-append, value-grows, valueFrom, number-once}
 use Rattle.reader.specs.declared.Front.{Front}
 use Rattle.reader.specs.declared.Front.the-variants.{Number, Nothing as NoFront}
 use Rattle.reader.specs.Parts.{NoDigit, FrontIs, FrontOf, CountOf, FieldIs, FieldOf}
 use Rattle.reader.proofs.Front.{the-type as front-type}
-use Rattle.reader.specs.declared.Count.{Count}
-use Rattle.reader.specs.declared.Count.the-variants.{Of, Nothing as NoCount}
+use Rattle.reader.specs.declared.Count.the-variants.{Nothing as NoCount}
 
 -- the first i bytes of s are digits with the value v
 pub data Sofar (s : List ℕ) (i v : ℕ) : Type 0 where

@@ -1,24 +1,23 @@
 -- The ways through the reader, and that each meets the promise. Assumes nothing.
-use mathlib.Core.Path.{_≡_, refl, sym, ap, subst, subst⁻¹, _∙_}
-use mathlib.Core.Logic.{_≢_, inl, inr}
-use mathlib.Core.List.{List, [], _∷_, _++_, append-assoc, append-nil}
-use Prim.Native.Nat.{ℕ, zero, suc, _+_, _-_, _*_, _<_, _≤_}
+use mathlib.Core.Path.{_≡_, refl, sym, ap, _∙_}
+use mathlib.Core.Logic.{inl, inr}
+use mathlib.Core.List.{List, [], _∷_, _++_}
+use Prim.Native.Nat.{ℕ, _+_, _-_, _*_, _<_, _≤_}
 use native.Mathlib.Omega.{arith}
 use lib.IntN.{ℤ}
-use lib.ListN.{length, take, drop, replicate, length-append, length-drop, length-replicate, drop-of-length-le}
+use lib.ListN.{length, take, drop, replicate, length-append, length-drop, drop-of-length-le}
 use lib.Seq.{take-at, take-append-add}
 use Rattle.theory.specs.Limits.{rows, sheet}
 use Rattle.theory.specs.Table.{absent}
 use Rattle.orders.specs.Refusals.{Clear, gives, refuses}
 use Rattle.sheet.specs.Text.{over}
 use Rattle.sheet.specs.Labels.{width, slots, Labels}
-use Rattle.sheet.specs.Sheet.{Labelled}
-use Rattle.sheet.specs.Reading.{State, start, tableOf, good, wrong, Reads, done, TooLong, WrongLine}
+use Rattle.sheet.specs.Reading.{start, tableOf, good, wrong, Reads, done, TooLong, WrongLine}
 use Rattle.sheet.proofs.Slots.{slots-length, labels-short}
 use Rattle.sheet.proofs.Matching.{read-is-written}
 use Rattle.reader.specs.declared.Walked.{Walked}
-use Rattle.reader.specs.Parts.{Holding, Holds, Ends, WalkTells}
-use Rattle.reader.specs.Promise.{Lent, lent, Wanted, WrongLength, reader-tests, written, ReadPromise, refused, wrong-line, read}
+use Rattle.reader.specs.Parts.{Holding, WalkTells}
+use Rattle.reader.specs.Promise.{Lent, lent, Wanted, WrongLength, reader-tests, ReadPromise, refused, wrong-line, read}
 use Rattle.reader.proofs.KeepLaws.{take-replicate}
 use Rattle.reader.proofs.WalkLaws.{surplus, places-few}
 

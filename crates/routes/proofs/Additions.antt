@@ -2,13 +2,13 @@
 use mathlib.Core.Path.{_≡_, refl, sym, _∙_}
 use mathlib.Core.Bool.{Bool, true, false}
 use mathlib.Core.List.{List}
-use Prim.Native.Nat.{ℕ, _≤_, _<_}
+use Prim.Native.Nat.{ℕ, _<_}
 use native.Mathlib.Omega.{arith}
 use lib.IntN.{ℤ}
 use lib.ListN.{length, replicate}
 use Rattle.theory.specs.Lists.{nums}
 use Rattle.theory.specs.Table.{entry}
-use Rattle.theory.specs.Canon.{Transversal, Canon, LeastFrom, Simplest}
+use Rattle.theory.specs.Canon.{Transversal, Canon, Simplest}
 use Rattle.theory.proofs.Unique.{canon-same, least-same, least-once}
 use Rattle.orders.specs.Tested.{Tells}
 use Rattle.orders.proofs.Entries.{clash}
@@ -16,8 +16,7 @@ use Rattle.orders.proofs.Zeros.{zero-start, zero-simplest}
 use Rattle.growth.specs.Grown.{Startable, Whole}
 use Rattle.growth.specs.declared.Grown.{Grown}
 use Rattle.lowering.specs.Descent.{CanonGiven, LoweredTo}
-use Rattle.routes.specs.Routes.{GivenAdditions, Least, ReducedFrom}
-use Rattle.routes.specs.declared.Reduced.{Reduced}
+use Rattle.routes.specs.Routes.{GivenAdditions, ReducedFrom}
 
 module _ {t : List ℤ} {n : ℕ} {given : List ℕ} (g : GivenAdditions t n given) (start : List ℕ)
     (kept : (i : ℕ) → i < length given → nums start i ≡ nums given i) where

@@ -1,5 +1,5 @@
 -- What the rounds of route 3 and growth from zeros tell of a transversal. Assumes nothing.
-use mathlib.Core.Path.{_≡_, refl, sym, _∙_}
+use mathlib.Core.Path.{_≡_, refl}
 use mathlib.Core.Logic.{_⊎_, inl, inr}
 use mathlib.Core.Bool.{Bool, true, false}
 use mathlib.Core.List.{List}
@@ -7,10 +7,10 @@ use Prim.Native.Nat.{ℕ, _<_}
 use native.Mathlib.Omega.{arith}
 use lib.IntN.{ℤ, ℤ-discrete}
 use lib.ListN.{replicate}
-use lib.Signed.{_≤ℤ_, _<ℤ_, ltZ}
+use lib.Signed.{ltZ}
 use Rattle.theory.specs.Lists.{nums}
 use Rattle.theory.specs.Table.{absent, Present, entry}
-use Rattle.theory.specs.Canon.{Transversal, OfMaxima, Simplest, Greatest, Misplaced, on-absent, exceeded, sum}
+use Rattle.theory.specs.Canon.{Transversal, Simplest, Greatest, Misplaced, on-absent, exceeded, sum}
 use Rattle.theory.proofs.Pigeonhole.{exists}
 use Rattle.theory.proofs.Signed.{signed}
 use Rattle.theory.proofs.Duality.{maxima-greatest}

@@ -1,13 +1,13 @@
 -- Laws of texts, byte by byte. Assumes nothing.
 use mathlib.Core.Path.{_≡_, refl, sym, ap, subst, _∙_}
 use mathlib.Core.Bool.{Bool, true, false, cond}
-use mathlib.Core.List.{List, [], _∷_, _++_, append-assoc, append-nil}
-use Prim.Native.Nat.{ℕ, zero, suc, _+_, _-_, _<_, _≤_}
+use mathlib.Core.List.{List, [], _∷_, _++_, append-nil}
+use Prim.Native.Nat.{ℕ, zero, suc, _+_, _-_, _<_}
 use native.Mathlib.Omega.{arith}
 use native.Mathlib.Numerals.{add-one}
-use lib.ListN.{length, getD, take, drop, set, length-drop, length-append}
-use lib.Seq.{take-all, take-at, drop-at, drop-cons, set-at, take-suc, length-take-le, append-snoc}
-use Rattle.sheet.specs.Text.{Each, over}
+use lib.ListN.{length, getD, take, drop, set, length-drop}
+use lib.Seq.{take-all, drop-at, drop-cons, set-at, take-suc, length-take-le, append-snoc}
+use Rattle.sheet.specs.Text.{Each}
 
 -- two tests that agree case by case
 pub cond-by : {A : Type 0} (t : Bool) {a b c d : A} → (t ≡ true → a ≡ c) → (t ≡ false → b ≡ d) → cond t a b ≡ cond t c d

@@ -1,8 +1,8 @@
 -- Lines: where one ends, and what an order line says, is read in one way only. Assumes nothing.
-use mathlib.Core.Path.{_≡_, refl, sym, ap, subst, subst⁻¹, _∙_}
+use mathlib.Core.Path.{_≡_, refl, sym, ap, subst, _∙_}
 use mathlib.Core.Logic.{_≢_}
-use mathlib.Core.List.{List, [], _∷_, _++_, append-assoc, append-nil}
-use Prim.Native.Nat.{ℕ, zero, suc, _+_, _-_, _*_, _<_, _≤_}
+use mathlib.Core.List.{List, [], _∷_, _++_}
+use Prim.Native.Nat.{ℕ, zero, suc, _+_, _-_}
 use native.Mathlib.Omega.{arith}
 use native.Mathlib.Decide.{ℕ-discrete}
 use lib.IntN.{ℤ, pos, negsuc}
@@ -11,8 +11,8 @@ use Rattle.sheet.specs.Text.{Each, feed, blank, text, signed, rowsHead, 
 use Rattle.sheet.specs.Labels.{Form}
 use Rattle.sheet.specs.Sheet.{orderText}
 use Rattle.sheet.specs.Reading.{Ended, Heading}
-use Rattle.sheet.proofs.Bytes.{Stops, front-once, each-weak, each-append, each-cons, each-right, append-cancel}
-use Rattle.sheet.proofs.Numbers.{Digit, NoDigit, text-digits, text-some, text-once, number-once}
+use Rattle.sheet.proofs.Bytes.{front-once, each-weak, each-append, each-cons, each-right, append-cancel}
+use Rattle.sheet.proofs.Numbers.{Digit, NoDigit, text-digits, text-once, number-once}
 use Rattle.sheet.proofs.Slots.{letter-low}
 
 -- every byte is not a line feed

@@ -1,15 +1,14 @@
 -- Labels in their places of 8 bytes. Assumes nothing.
 use mathlib.Core.Path.{_≡_, refl, sym, ap, subst, subst⁻¹, _∙_}
-use mathlib.Core.Logic.{_≢_}
 use mathlib.Core.List.{List, [], _∷_, _++_, append-assoc, append-nil}
 use Prim.Native.Nat.{ℕ, zero, suc, _+_, _-_, _*_, _<_, _≤_}
 use native.Mathlib.Omega.{arith}
 use native.Mathlib.Decide.{ℕ-discrete}
 use lib.ListN.{length, getD, take, drop, replicate, length-append, length-replicate, List·getD-append}
-use lib.Seq.{take-at, drop-append-add, take-append-le, take-all, getD-append-seam, drop-drop}
+use lib.Seq.{take-at, drop-append-add, getD-append-seam}
 use Rattle.sheet.specs.Text.{Each}
-use Rattle.sheet.specs.Labels.{LetterOrDigit, digit, capital, small, width, Form, New, Labels, filled, slots, slot, Repeated}
-use Rattle.sheet.proofs.Bytes.{Stops, front-once, each-weak}
+use Rattle.sheet.specs.Labels.{LetterOrDigit, digit, capital, small, width, Form, New, Labels, filled, slots, slot}
+use Rattle.sheet.proofs.Bytes.{Stops, front-once}
 
 -- a letter or digit is no zero byte, no line feed and no blank
 pub letter-low : (b : ℕ) → LetterOrDigit b → 48 ≤ b

@@ -1,16 +1,15 @@
 -- No sheet is longer than the reader takes. Assumes nothing.
-use mathlib.Core.Path.{_≡_, refl, sym, ap, _∙_}
+use mathlib.Core.Path.{_≡_, refl, ap, _∙_}
 use mathlib.Core.Bool.{Bool, true, false}
 use mathlib.Core.List.{List, [], _∷_, _++_}
-use Prim.Native.Nat.{ℕ, zero, suc, _+_, _-_, _*_, _/_, _%_, _<_, _≤_}
+use Prim.Native.Nat.{ℕ, suc, _+_, _-_, _*_, _/_, _%_, _<_, _≤_}
 use native.Mathlib.Omega.{arith}
 use native.Mathlib.Nat.{mul-le-mul}
-use lib.IntN.{ℤ, pos}
-use lib.ListN.{length, getD, length-append}
+use lib.IntN.{ℤ}
+use lib.ListN.{length, length-append}
 use Rattle.theory.specs.Limits.{rows, order, sheet}
 use Rattle.theory.specs.Table.{Present, Order, Entries}
-use Rattle.sheet.specs.Text.{text, signed, ended, rowsHead, colsHead, ordersHead}
-use Rattle.sheet.specs.Labels.{Form, Labels}
+use Rattle.sheet.specs.Text.{text, ended, rowsHead, colsHead, ordersHead}
 use Rattle.sheet.specs.Sheet.{Labelled, Stands, labelLines, isAbsent, presentCount, orderLine, orderLines, labelSection, orderSection, sheetOf}
 use Rattle.sheet.proofs.Orders.{absent-not, row-inside, col-inside, entries-right}
 use Rattle.sheet.proofs.Slots.{Short, short-tail, labels-short}

@@ -1,11 +1,11 @@
 -- The sharp bounds of document 01's table of limits, over the size n, the limit L and the largest start B: additions at most
 -- B + (n − 1) · 2L, heads from −L to B + (n − 1) · 2L + L, sums within ± n · L. Assumes nothing.
-use mathlib.Core.Path.{_≡_, refl}
+use mathlib.Core.Path.{_≡_}
 use mathlib.Core.Logic.{_⊎_, inl, inr}
 use Prim.Native.Nat.{ℕ, zero, suc, _+_, _-_, _*_, _≤_, _<_}
 use native.Mathlib.Decide.{decLt, decLe}
 use native.Mathlib.Omega.{arith}
-use lib.IntN.{ℤ, pos, negsuc, negℤ, _+ℤ_}
+use lib.IntN.{ℤ, pos, negsuc, negℤ}
 use lib.Signed.{_≤ℤ_}
 use Rattle.theory.specs.Totals.{totalℕ}
 use Rattle.theory.specs.Table.{Order, WithinLimit}

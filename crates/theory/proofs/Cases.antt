@@ -1,27 +1,27 @@
 -- The P tables: one test of a case that the checker computes, one theorem that turns the test into the definitions, and the list.
 -- The simplest canon is told by 001's proposition VII (the levels exhaust the rows), the first stars, "no canon" and "no
 -- transversal" by a search through the rows, the sum and the heads by working them out. Assumes nothing.
-use mathlib.Core.Path.{_≡_, refl, sym, _∙_, ap}
+use mathlib.Core.Path.{_≡_, refl, _∙_}
 use mathlib.Core.Logic.{_⊎_, inl, inr}
 use mathlib.Core.Bool.{Bool, true, false, not, _&&_, _||_}
 use mathlib.Core.List.{List, [], _∷_}
-use Prim.Native.Nat.{ℕ, zero, suc, _+_, _-_, _*_, _≤_, _<_}
+use Prim.Native.Nat.{ℕ, zero, suc, _-_, _*_, _≤_, _<_}
 use native.Mathlib.Omega.{arith}
-use lib.Dec.{T, eqb, leb, ltb, eqb→eq, eqb-refl, leb→le, ltb→lt, lt→ltb, T-not, not-T}
-use lib.IntN.{ℤ, pos, negℤ, _+ℤ_}
+use lib.Dec.{T, eqb, leb, ltb, eqb→eq, eqb-refl, leb→le, lt→ltb, T-not, not-T}
+use lib.IntN.{ℤ, pos, negℤ}
 use lib.ListN.{length, getD}
-use lib.Signed.{_≤ℤ_, _<ℤ_, leZ, ltZ, leZ-yes, ltZ-yes, ≤ℤ-refl}
+use lib.Signed.{_≤ℤ_, leZ, ltZ, leZ-yes, ltZ-yes, ≤ℤ-refl}
 use Rattle.theory.specs.Totals.{total}
 use Rattle.theory.specs.Limits.{rows, order, handed}
 use Rattle.theory.specs.Lists.{nums, ints, flags, columns, StarList}
-use Rattle.theory.specs.Table.{absent, Present, Order, entry, Entries}
-use Rattle.theory.specs.Canon.{Transversal, raised, Maximum, OfMaxima, Canon, LeastFrom, Heads, Before, Stars, sum, Greatest, Misplaced, exceeded, Solution}
+use Rattle.theory.specs.Table.{absent, Present, Order, entry}
+use Rattle.theory.specs.Canon.{Transversal, raised, Maximum, OfMaxima, Canon, Heads, Before, sum, Misplaced, exceeded, Solution}
 use Rattle.theory.specs.Cases.{Handed, nothing, additions, stars, Outcome, answer, refusal6, refusal7, refusal8, Case, Leads, NoCanon, Misplaces, SomeTransversal, Comes, Right, Every, cases}
 use Rattle.theory.proofs.Pigeonhole.{onto}
 use Rattle.theory.proofs.Signed.{signed}
 use Rattle.theory.proofs.Unique.{sum-same}
 use Rattle.theory.proofs.Reach.{Level, levels-least}
-use Rattle.theory.proofs.Search.{guard, fresh, search, both, and-both, either, left-either, right-either, every, every-told, all, all-told, all-tells, some, some-told, some-tells, listed, listed-at, found, found-told, found-tells, Chosen}
+use Rattle.theory.proofs.Search.{guard, fresh, search, both, and-both, either, every, every-told, all, all-told, all-tells, some, some-told, some-tells, listed, listed-at, found, found-told, found-tells, Chosen}
 
 -- ---- tests of numbers
 same : ℤ → ℤ → Bool

@@ -1,14 +1,14 @@
 -- C1 and C2: a canon's heads bound the sum of every transversal, and just the transversals of column maxima reach the bound. So
 -- under every canon the transversals of column maxima are the transversals of greatest sum. Assumes nothing.
-use mathlib.Core.Path.{_≡_, refl, sym, _∙_, ap, ap₂}
+use mathlib.Core.Path.{_≡_, refl, _∙_, ap, ap₂}
 use Prim.Native.Nat.{ℕ, _+_, _≤_, _<_}
 use native.Mathlib.Omega.{arith}
-use lib.IntN.{ℤ, pos, _+ℤ_, _-ℤ_}
+use lib.IntN.{ℤ, pos, _+ℤ_}
 use lib.Signed.{_≤ℤ_, ≤ℤ-refl}
 use Rattle.theory.specs.Totals.{total, totalℕ}
 use Rattle.theory.specs.Table.{Present}
 use Rattle.theory.specs.Canon.{Transversal, raised, Maximum, OfMaxima, Canon, Head, Heads, sum, Greatest, Balance}
-use Rattle.theory.proofs.Pigeonhole.{inverse, inverse-left, inverse-right}
+use Rattle.theory.proofs.Pigeonhole.{inverse, inverse-right}
 use Rattle.theory.proofs.Totals.{total-le, total-plus, total-tight, total-same, reindexing}
 use Rattle.theory.proofs.Signed.{up, dn, plus, minus, signed, le-ud, total-ud}
 

@@ -8,7 +8,7 @@ use native.Mathlib.Omega.{arith}
 use lib.IntN.{ℤ, pos, _+ℤ_, ℤ-discrete}
 use lib.Signed.{_≤ℤ_}
 use Rattle.theory.specs.Table.{absent, Present}
-use Rattle.theory.specs.Canon.{Transversal, raised, Maximum, OfMaxima, Canon, AtLeast, LeastFrom}
+use Rattle.theory.specs.Canon.{raised, Maximum, OfMaxima, Canon, AtLeast, LeastFrom}
 use Rattle.theory.proofs.Pigeonhole.{choose, choose-yes, exists, dec-exists, dec-both, dec-not}
 use Rattle.theory.proofs.Signed.{raised-le-ud, ud-raised-le, raised-lt-ud}
 use Rattle.theory.proofs.Duality.{maxima-everywhere}

@@ -1,11 +1,11 @@
 -- C4: there is at most one least canon from a start, one first transversal, one head of a column and one sum, so at most one
 -- solution; and what is said of additions, stars and heads is said of any that agree with them in the rows. Assumes nothing.
 use mathlib.Core.Path.{_≡_, sym, _∙_, ap}
-use Prim.Native.Nat.{ℕ, zero, suc, _+_, _≤_, _<_}
+use Prim.Native.Nat.{ℕ, zero, suc, _<_}
 use native.Mathlib.Decide.{decLt}
 use native.Mathlib.Omega.{arith}
 use lib.IntN.{ℤ}
-use Rattle.theory.specs.Canon.{Transversal, Maximum, OfMaxima, Canon, LeastFrom, Head, Heads, Before, Stars, sum, Index, Misplaced, on-absent, exceeded, Solution}
+use Rattle.theory.specs.Canon.{Transversal, Maximum, OfMaxima, Canon, LeastFrom, Head, Heads, Stars, sum, Index, Misplaced, on-absent, exceeded, Solution}
 use Rattle.theory.proofs.Totals.{total-sameℤ}
 use Rattle.theory.proofs.Duality.{maxima-everywhere, head-once}
 

@@ -1,21 +1,20 @@
 -- Labels in the places of a buffer. Assumes nothing.
 use mathlib.Core.Path.{_≡_, refl, sym, ap, subst, subst⁻¹, _∙_}
-use mathlib.Core.Logic.{_≢_}
 use mathlib.Core.Bool.{Bool, true, false, cond}
-use mathlib.Core.List.{List, [], _∷_, _++_, append-assoc, append-nil}
+use mathlib.Core.List.{List, [], _∷_, _++_, append-nil}
 use Prim.Native.Nat.{ℕ, zero, suc, _+_, _-_, _*_, _<_, _≤_}
 use native.Mathlib.Omega.{arith}
 use native.Mathlib.Numerals.{add-one}
-use borrow.Author.Tests.{eq-eqb, ne-eqb, eqb-true, eqb-false}
+use borrow.Author.Tests.{eq-eqb, ne-eqb}
 use lib.Dec.{eqb}
-use lib.ListN.{length, getD, take, drop, replicate, drop-of-length-le, length-drop, length-append, length-take, take-append-drop, length-replicate, getD-replicate, List·getD-append}
-use lib.Seq.{drop-drop, drop-cons, take-length, ext-getD, getD-drop, getD-append-add, length-take-le, take-append-le}
+use lib.ListN.{length, getD, take, drop, replicate, drop-of-length-le, length-drop, length-append, take-append-drop, length-replicate, getD-replicate}
+use lib.Seq.{drop-drop, drop-cons, ext-getD, getD-drop, getD-append-add, length-take-le}
 use Rattle.sheet.specs.Text.{Each, ended}
 use Rattle.orders.specs.Tested.{Tells}
 use native.Mathlib.Decide.{ℕ-discrete}
 use Rattle.sheet.specs.Labels.{width, Form, Labels, filled, slots, slot, Repeated}
 use Rattle.sheet.specs.Sheet.{labelLines}
-use Rattle.sheet.proofs.Slots.{slot-at, filled-once, labels-short, form-nonzero, slots-length, slots-once, filled-length}
+use Rattle.sheet.proofs.Slots.{slot-at, filled-once, labels-short, form-nonzero, slots-length, filled-length}
 use Rattle.writer.specs.Parts.{labelOf, labelsOf, SlotStands, BufferStands}
 
 le-by : (t : Bool) (b : ℕ) (l s : List ℕ) → length l ≤ length s → length (cond t [] (b ∷ l)) ≤ suc (length s)

@@ -9,7 +9,6 @@ use lib.ListN.{length}
 use mir.Syntax.{w32}
 use mir.Facts.{toZ-ofZ}
 use Rattle.orders.specs.Refusals.{gives}
-use Rattle.routes.specs.Routes.{GivenAdditions, Least}
 use Rattle.handed.specs.Handed.{Sound}
 use Rattle.canon.proofs.Refusing.{refuse-first, refuse-later, lent, given-additions}
 use Rattle.canon.proofs.Answering.{routed}

@@ -10,7 +10,6 @@ use mir.Syntax.{w32}
 use mir.Facts.{toZ-ofZ}
 use Rattle.theory.proofs.Unique.{misplaced-same}
 use Rattle.orders.specs.Refusals.{gives}
-use Rattle.handed.specs.Handed.{ListedAs}
 use Rattle.handed.specs.Handed.{Sound}
 use Rattle.canon.proofs.Refusing.{refuse-first, refuse-later, lent, given-columns}
 use Rattle.canon.proofs.Answering.{routed}

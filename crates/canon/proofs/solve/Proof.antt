@@ -1,6 +1,6 @@
 -- Route 1 keeps its promise. Assumes nothing.
 use mathlib.Core.Path.{refl, ap}
-use mathlib.Core.Logic.{inl, inr}
+use mathlib.Core.Logic.{inl}
 use mathlib.Core.List.{[], _∷_}
 use borrow.Author.Needs.{needs, sfits-of}
 use borrow.Author.Tests.{not-true, not-false}

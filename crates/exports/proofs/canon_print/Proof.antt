@@ -3,7 +3,6 @@ use borrow.Author.Needs.{needs}
 use Rattle.exports.proofs.canon_print.Statement.{statement}
 use Rattle.exports.proofs.canon_print.Tie as tie
 use Rattle.printing.specs.Promise.{says}
-use Rattle.printing.specs.declared.Printed.{Printed}
 use Rattle.exports.specs.Told.{gave, kept-back}
 
 print-answer-requires : tie.Need-print-answer-requires

@@ -1,5 +1,4 @@
 -- Row s is tight in an unmarked column, or a tree grows from it. Assumes nothing.
-use mathlib.Core.Path.{refl}
 use native.Mathlib.Omega.{arith}
 use borrow.Author.Needs.{needs}
 use Rattle.growth.proofs.Inserting.{met-at-once}

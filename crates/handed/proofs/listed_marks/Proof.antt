@@ -1,6 +1,6 @@
 -- The marks of a list of stars. Assumes nothing.
 use mathlib.Core.Path.{_≡_}
-use Prim.Native.Nat.{ℕ, _-_, _≤_}
+use Prim.Native.Nat.{_-_, _≤_}
 use native.Mathlib.Omega.{arith}
 use borrow.Author.Needs.{needs}
 use Rattle.handed.proofs.Marking.{Marked, marked-start, marked-more, marked-low, marked-high, marked-twice, marked-end, marked-wrong}

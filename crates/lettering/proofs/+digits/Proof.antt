@@ -1,5 +1,4 @@
 -- The digits of a number are counted from its tens. Assumes nothing.
-use borrow.Author.Needs.{needs}
 use native.Mathlib.Omega.{arith}
 use Rattle.lettering.proofs.TextLaws.{text-length, digits-more}
 use Prim.Native.Nat.{_+_, _/_}

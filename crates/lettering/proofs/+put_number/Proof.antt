@@ -3,9 +3,7 @@ use borrow.Author.Needs.{needs}
 use native.Mathlib.Omega.{arith}
 use Rattle.lettering.proofs.TextLaws.{text-length, digits-more}
 use Prim.Native.Nat.{_+_, _/_}
-use mathlib.Core.Path.{sym, ap, _∙_}
-use lib.ListN.{length, length-set}
-use Rattle.sheet.proofs.Numbers.{text-small, text-some}
+use Rattle.sheet.proofs.Numbers.{text-some}
 use Rattle.sheet.specs.Text.{text}
 use Rattle.lettering.proofs.PutLaws.{number-one, number-more, puts-length}
 use Prim.Native.Nat.{ℕ, _<_}

@@ -1,6 +1,5 @@
 -- A signed number loses its sign, in 64 bits, where its negative fits. Assumes nothing.
-use borrow.Author.Needs.{needs}
-use mathlib.Core.Path.{_≡_, refl}
+use mathlib.Core.Path.{_≡_}
 use mathlib.Core.Bool.{true, false}
 use lib.IntN.{pos, _-ℤ_}
 use lib.Signed.{ltZ}

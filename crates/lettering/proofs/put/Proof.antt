@@ -1,9 +1,9 @@
 -- The bytes so far are copied, the others stay. Assumes nothing.
 use borrow.Author.Needs.{needs}
 use native.Mathlib.Omega.{arith}
-use Prim.Native.Nat.{ℕ, _+_, _-_, _*_, _≤_, _<_}
-use mathlib.Core.Path.{_≡_, refl, sym, ap, subst, _∙_}
-use lib.ListN.{length, getD, set, take, drop, length-set, length-append, length-drop}
+use Prim.Native.Nat.{_+_, _-_, _≤_}
+use mathlib.Core.Path.{_≡_, refl, ap, _∙_}
+use lib.ListN.{length, getD, set, take, drop, length-set}
 use mathlib.Core.List.{_++_}
 use Rattle.sheet.proofs.Bytes.{copy-next}
 use lib.Seq.{take-length}

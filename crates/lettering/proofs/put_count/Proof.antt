@@ -1,9 +1,7 @@
 -- A number and one byte more. Assumes nothing.
 use borrow.Author.Needs.{needs}
 use native.Mathlib.Omega.{arith}
-use Prim.Native.Nat.{ℕ, _+_, _-_, _*_, _≤_, _<_}
-use mathlib.Core.Path.{_≡_, refl, sym, ap, subst, _∙_}
-use lib.ListN.{length, getD, set, take, drop, length-set, length-append, length-drop}
+use Prim.Native.Nat.{_-_}
 use Rattle.lettering.proofs.PutLaws.{byte-inside, byte-fits, byte-room, puts-byte}
 use Rattle.sheet.specs.Text.{text}
 use borrow.Author.Needs.{needs}

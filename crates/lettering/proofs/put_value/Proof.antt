@@ -1,15 +1,14 @@
 -- A minus and a number, or a number. Assumes nothing.
 use borrow.Author.Needs.{needs}
 use native.Mathlib.Omega.{arith}
-use Prim.Native.Nat.{ℕ, _+_, _-_, _*_, _≤_, _<_}
-use mathlib.Core.Path.{_≡_, refl, sym, ap, subst, _∙_}
-use lib.ListN.{length, getD, set, take, drop, length-set, length-append, length-drop}
-use Rattle.lettering.proofs.PutLaws.{puts-inside, puts-tail, puts-same, left-room, sum-fits, part-room, first-room, puts-length, puts-byte, puts-none}
+use Prim.Native.Nat.{_-_}
+use mathlib.Core.Path.{refl, sym, ap, _∙_}
+use lib.ListN.{length, length-set}
+use Rattle.lettering.proofs.PutLaws.{puts-tail, puts-same, left-room, sum-fits, puts-length, puts-byte, puts-none}
 use Rattle.lettering.proofs.TextLaws.{signed-minus, signed-plus}
-use mathlib.Core.List.{[], _∷_, _++_, append-assoc}
+use mathlib.Core.List.{[], _∷_}
 use Rattle.sheet.specs.Text.{text, signed}
 use mir.Facts.{toZ-ofZ}
-use lib.IntN.{natAbs}
 use borrow.Author.Needs.{needs}
 use Rattle.lettering.proofs.put_value.Statement.{statement}
 use Rattle.lettering.proofs.put_value.Tie as tie

@@ -1,9 +1,8 @@
 -- An order and a line feed. Assumes nothing.
 use borrow.Author.Needs.{needs}
 use native.Mathlib.Omega.{arith}
-use Prim.Native.Nat.{ℕ, _+_, _-_, _*_, _≤_, _<_}
-use mathlib.Core.Path.{_≡_, refl, sym, ap, subst, _∙_}
-use lib.ListN.{length, getD, set, take, drop, length-set, length-append, length-drop}
+use Prim.Native.Nat.{_-_}
+use mathlib.Core.Path.{ap}
 use Rattle.lettering.proofs.PutLaws.{byte-inside, byte-fits, byte-room, puts-byte, puts-same}
 use Rattle.sheet.specs.Text.{signed}
 use mir.Facts.{toZ-ofZ}

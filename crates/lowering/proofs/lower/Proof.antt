@@ -1,8 +1,5 @@
 -- The fall from a canon to the least canon from the floors. Assumes nothing.
-use mathlib.Core.Path.{_≡_}
-use Prim.Native.Nat.{ℕ, _≤_, _<_}
 use native.Mathlib.Omega.{arith}
-use borrow.Author.Needs.{needs}
 use Rattle.orders.proofs.Flags.{unset, unset-less}
 use Rattle.lowering.proofs.Descent.{Going, going-start, going-open, going-spare, going-roomy, going-falling, going-step, going-end}
 use Rattle.lowering.proofs.lower.Statement.{statement}

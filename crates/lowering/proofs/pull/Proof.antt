@@ -1,13 +1,11 @@
 -- The least addition that keeps an order a maximum beside another. Assumes nothing.
 use mathlib.Core.Path.{_≡_}
-use native.Mathlib.Omega.{arith}
 use borrow.Author.Needs.{needs, sfits-of}
 use lib.IntN.{pos, _+ℤ_, _-ℤ_}
 use lib.Signed.{_≤ℤ_}
 use mir.Syntax.{w16, w32}
 use mir.Val.{SFits, toZ, ofZ}
 use mir.Facts.{toZ-ofZ, sfits-widen, sfits-toZ, fits-ofZ}
-use Rattle.theory.proofs.Signed.{plus, minus, signed, ud-nonNeg, natAbs-is}
 use Rattle.orders.proofs.Entries.{read-le, read-gt}
 use Rattle.lowering.proofs.Pulls.{pull-none, pull-some, pull-fits, pull-cast}
 use Rattle.lowering.proofs.pull.Statement.{statement}

@@ -1,5 +1,4 @@
 -- The entries of a table are tested one after the other. Assumes nothing.
-use mathlib.Core.Path.{_≡_}
 use Prim.Native.Nat.{ℕ, _-_, _≤_, _<_}
 use native.Mathlib.Omega.{arith}
 use borrow.Author.Needs.{needs}
@@ -10,7 +9,6 @@ use mir.Syntax.{w16}
 use Rattle.theory.specs.Table.{Present, Order}
 use Rattle.theory.specs.Limits.{order}
 use Rattle.orders.proofs.Entries.{tells-yes, tells-no, back, entries-more}
-use Rattle.orders.specs.Tested.{Tells}
 use Rattle.orders.proofs.entries_stand.Statement.{statement}
 use Rattle.orders.proofs.entries_stand.Tie as tie
 

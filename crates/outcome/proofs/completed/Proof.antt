@@ -1,5 +1,5 @@
 -- The whole answer from a canon and the marks of a transversal of its column maxima. Assumes nothing.
-use borrow.Author.Needs.{needs, sfits-of}
+use borrow.Author.Needs.{sfits-of}
 use mir.Syntax.{w32}
 use mir.Facts.{toZ-ofZ}
 use Rattle.outcome.proofs.Parts.{occupied, completed-whole}

@@ -1,8 +1,7 @@
 -- The columns numbered from 1. Assumes nothing.
 use mathlib.Core.Path.{_≡_, refl}
-use Prim.Native.Nat.{ℕ, _+_, _-_, _≤_}
+use Prim.Native.Nat.{_+_, _-_, _≤_}
 use native.Mathlib.Omega.{arith}
-use borrow.Author.Needs.{needs}
 use Rattle.theory.specs.Lists.{nums}
 use Rattle.orders.proofs.Sweeps.{Swept, swept-start, swept-set}
 use Rattle.outcome.proofs.numbered.Statement.{statement}

@@ -1,7 +1,7 @@
 -- A section in the tail of a page. Assumes nothing.
 use borrow.Author.Needs.{needs}
 use mathlib.Core.Path.{refl}
-use Rattle.printing.proofs.Pages.{follows, room-left}
+use Rattle.printing.proofs.Pages.{follows}
 use Rattle.printing.proofs.add_signed.Statement.{statement}
 use Rattle.printing.proofs.add_signed.Tie as tie
 

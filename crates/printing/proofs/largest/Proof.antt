@@ -1,11 +1,9 @@
 -- The largest so far is one of the additions, and none of those passed exceeds it. Assumes nothing.
 use borrow.Author.Needs.{needs}
 use native.Mathlib.Omega.{arith}
-use Prim.Native.Nat.{ℕ, _-_, _≤_, _<_}
-use mathlib.Core.Path.{_≡_, refl}
-use mathlib.Core.List.{List}
+use Prim.Native.Nat.{_-_}
 use mathlib.Core.Logic.{inl, inr}
-use lib.ListN.{length, getD}
+use lib.ListN.{length}
 use Rattle.printing.proofs.Figures.{Upto, upto-one, upto-same, upto-more, upto-all}
 use Rattle.printing.proofs.largest.Statement.{statement}
 use Rattle.printing.proofs.largest.Tie as tie

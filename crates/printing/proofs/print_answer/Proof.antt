@@ -1,8 +1,7 @@
 -- The page is copied out where it fits. Assumes nothing.
 use borrow.Author.Needs.{needs}
 use native.Mathlib.Omega.{arith}
-use mathlib.Core.Path.{_≡_, sym}
-use lib.ListN.{length}
+use mathlib.Core.Path.{sym}
 use lib.Seq.{length-take-le}
 use Rattle.printing.proofs.Saying.{page-inside, not-fitting, copied}
 use Rattle.printing.proofs.print_answer.Statement.{statement}

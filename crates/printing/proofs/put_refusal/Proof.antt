@@ -1,8 +1,7 @@
 -- A refusal's one line, with the number of a wrong line and without. Assumes nothing.
 use borrow.Author.Needs.{needs}
 use native.Mathlib.Omega.{arith}
-use Prim.Native.Nat.{ℕ}
-use mathlib.Core.Path.{_≡_, refl, ap, _∙_}
+use mathlib.Core.Path.{ap, _∙_}
 use mathlib.Core.List.{_++_}
 use Rattle.sheet.specs.Text.{text, ended}
 use Rattle.printing.specs.Printed.{refusedHead}

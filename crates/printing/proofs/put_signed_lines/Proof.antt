@@ -5,7 +5,7 @@ use Prim.Native.Nat.{_*_, _-_}
 use mathlib.Core.Path.{_≡_, refl, ap}
 use mathlib.Core.List.{map}
 use lib.IntN.{pos}
-use lib.ListN.{length, getD, take}
+use lib.ListN.{length, getD}
 use lib.Seq.{take-all}
 use mir.Syntax.{w32}
 use Rattle.orders.proofs.Entries.{back}

@@ -1,12 +1,10 @@
 -- A count behind the bytes of a heading. Assumes nothing.
 use borrow.Author.Needs.{needs}
 use native.Mathlib.Omega.{arith}
-use Rattle.reader.proofs.LineLaws.{count-some, count-nothing, begins-short, after-no-head, after-nothing, after-low, after-good}
-use Prim.Native.Nat.{_≤_, _<_}
-use mathlib.Core.Path.{_≡_, ap}
+use Rattle.reader.proofs.LineLaws.{count-some, count-nothing, after-no-head, after-nothing, after-low, after-good}
+use mathlib.Core.Path.{ap}
 use lib.ListN.{length, drop, length-append}
 use Rattle.sheet.proofs.Bytes.{rest}
-use borrow.Author.Tests.{not-true}
 use Rattle.reader.proofs.count_after.Statement.{statement}
 use Rattle.reader.proofs.count_after.Tie as tie
 

@@ -1,7 +1,6 @@
 -- A byte is tested. Assumes nothing.
-use borrow.Author.Needs.{needs}
 use native.Mathlib.Omega.{arith}
-use Rattle.orders.proofs.Entries.{tells-yes, tells-no}
+use Rattle.orders.proofs.Entries.{tells-no}
 use borrow.Author.Tests.{leb-true, leb-false}
 use Rattle.reader.proofs.is_digit.Statement.{statement}
 use Rattle.reader.proofs.is_digit.Tie as tie

@@ -4,9 +4,9 @@ use native.Mathlib.Omega.{arith}
 use Rattle.reader.proofs.LineLaws.{field-some, no-row, no-col, no-order, order-good, is-no-value, order-bits}
 use Rattle.reader.proofs.NumberLaws.{is-nothing}
 use Rattle.reader.specs.Parts.{FieldOf, ValueOf}
-use Prim.Native.Nat.{_+_, _-_, _≤_}
-use mathlib.Core.Path.{_≡_, sym, subst}
-use lib.ListN.{drop, length, length-drop}
+use Prim.Native.Nat.{_+_, _-_}
+use mathlib.Core.Path.{sym, subst}
+use lib.ListN.{drop, length-drop}
 use lib.Seq.{drop-drop}
 use Rattle.sheet.proofs.Bytes.{rest}
 use Rattle.reader.proofs.order_line.Statement.{statement}

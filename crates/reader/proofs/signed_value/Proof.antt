@@ -2,8 +2,8 @@
 use borrow.Author.Needs.{needs}
 use native.Mathlib.Omega.{arith}
 use Rattle.reader.proofs.LineLaws.{value-none, count-some, count-nothing, minus-nothing, minus-zero, minus-good, plus-nothing, plus-good, fits-value, plus-bits, fits-minus, minus-bits}
-use Prim.Native.Nat.{suc, _-_, _≤_}
-use mathlib.Core.Path.{_≡_, sym, ap, _∙_}
+use Prim.Native.Nat.{suc, _-_}
+use mathlib.Core.Path.{_≡_, ap, _∙_}
 use lib.ListN.{drop}
 use Rattle.sheet.specs.Text.{text}
 use Rattle.sheet.proofs.Bytes.{rest}

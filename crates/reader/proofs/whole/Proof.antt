@@ -1,6 +1,5 @@
 -- A number that takes the whole text. Assumes nothing.
 use borrow.Author.Needs.{needs}
-use native.Mathlib.Omega.{arith}
 use Rattle.reader.proofs.NumberLaws.{front-some, front-nothing, whole-short, whole-all, whole-nothing}
 use Rattle.reader.proofs.whole.Statement.{statement}
 use Rattle.reader.proofs.whole.Tie as tie

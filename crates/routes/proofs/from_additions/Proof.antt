@@ -1,6 +1,5 @@
 -- From additions. Assumes nothing.
 use native.Mathlib.Omega.{arith}
-use borrow.Author.Needs.{needs}
 use borrow.Author.Tests.{not-true, not-false}
 use Rattle.routes.proofs.Additions.{startable, reduced-none, reduced-moved, canon-given, reduced-canon}
 use Rattle.routes.proofs.from_additions.Statement.{statement}

@@ -1,5 +1,4 @@
 -- From the columns of a transversal. Assumes nothing.
-use borrow.Author.Needs.{needs}
 use Rattle.routes.proofs.Columns.{from-zeros, transversal-of, raised-ended, raised-failed, endless, absent-place}
 use Rattle.routes.proofs.from_columns.Statement.{statement}
 use Rattle.routes.proofs.from_columns.Tie as tie

@@ -1,5 +1,4 @@
 -- A byte is tested against the three runs of letters and digits. Assumes nothing.
-use borrow.Author.Needs.{needs}
 use Rattle.orders.proofs.Entries.{tells-yes, tells-no}
 use native.Mathlib.Omega.{arith}
 use borrow.Author.Tests.{leb-true, leb-false}

@@ -1,8 +1,6 @@
 -- Assumes nothing.
 use borrow.Author.Needs.{needs}
-use native.Mathlib.Omega.{arith}
-use Prim.Native.Nat.{ℕ, _+_, _-_, _*_, _%_, _≤_, _<_}
-use mathlib.Core.Path.{_≡_, refl, sym, ap, _∙_}
+use Prim.Native.Nat.{_-_}
 use Rattle.sheet_vectors.proofs.main.Statement.{statement}
 use Rattle.sheet_vectors.proofs.main.Tie as tie
 

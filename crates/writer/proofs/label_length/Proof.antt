@@ -1,9 +1,9 @@
 -- The first zero byte is looked for. Assumes nothing.
 use borrow.Author.Needs.{needs}
 use native.Mathlib.Omega.{arith}
-use Prim.Native.Nat.{ℕ, _+_, _-_, _*_, _≤_, _<_}
-use mathlib.Core.Path.{_≡_, refl, sym, ap, subst, _∙_}
-use lib.ListN.{length, getD, set, take, drop, length-set, length-append, length-drop}
+use Prim.Native.Nat.{_+_, _-_, _≤_}
+use mathlib.Core.Path.{_≡_}
+use lib.ListN.{length, drop}
 use Rattle.writer.proofs.SlotLaws.{label-end, label-zero, label-more}
 use Rattle.writer.specs.Parts.{labelOf}
 use Rattle.writer.proofs.label_length.Statement.{statement}

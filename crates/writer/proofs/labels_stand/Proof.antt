@@ -1,9 +1,9 @@
 -- The places of a buffer are tested one after the other. Assumes nothing.
 use borrow.Author.Needs.{needs}
 use native.Mathlib.Omega.{arith}
-use Prim.Native.Nat.{ℕ, _+_, _-_, _*_, _≤_, _<_}
-use mathlib.Core.Path.{_≡_, refl, sym, ap, subst, _∙_, subst⁻¹}
-use lib.ListN.{length, getD, set, take, drop, length-set, length-append, length-drop}
+use Prim.Native.Nat.{_+_, _-_, _*_, _≤_}
+use mathlib.Core.Path.{_≡_, refl, subst, subst⁻¹}
+use lib.ListN.{length}
 use Rattle.orders.proofs.Entries.{tells-yes, tells-no}
 use Rattle.writer.proofs.SlotLaws.{buffer-none, buffer-more}
 use borrow.Author.Tests.{not-true, not-false}

@@ -1,9 +1,9 @@
 -- The bytes of an order line. Assumes nothing.
 use borrow.Author.Needs.{needs}
 use native.Mathlib.Omega.{arith}
-use Prim.Native.Nat.{ℕ, _+_, _-_, _*_, _≤_, _<_, _/_, _%_}
-use mathlib.Core.Path.{_≡_, refl, sym, ap, subst, _∙_}
-use lib.ListN.{length, getD, set, take, drop, length-set, length-append, length-drop}
+use Prim.Native.Nat.{_+_, _-_, _/_, _%_}
+use mathlib.Core.Path.{sym, ap}
+use lib.ListN.{length}
 use Rattle.writer.proofs.OrderLaws.{absent-bits-is, absent-bits-not, line-absent, present-length, row-few, col-few}
 use Rattle.lettering.proofs.TextLaws.{text-within}
 use Rattle.orders.proofs.Entries.{present-bits}

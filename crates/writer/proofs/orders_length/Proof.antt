@@ -1,9 +1,9 @@
 -- The lengths of the order lines are added up. Assumes nothing.
 use borrow.Author.Needs.{needs}
 use native.Mathlib.Omega.{arith}
-use Prim.Native.Nat.{ℕ, _+_, _-_, _*_, _≤_, _<_}
-use mathlib.Core.Path.{_≡_, refl, sym, ap, subst, _∙_}
-use lib.ListN.{length, getD, set, take, drop, length-set, length-append, length-drop}
+use Prim.Native.Nat.{_-_, _*_, _≤_}
+use mathlib.Core.Path.{_≡_, refl, ap, _∙_}
+use lib.ListN.{length, getD, take, length-append}
 use Rattle.writer.proofs.OrderLaws.{entry-tested, square-few, order-lines-next}
 use Rattle.orders.proofs.Entries.{back}
 use mir.Syntax.{w16}

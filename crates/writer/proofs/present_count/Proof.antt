@@ -1,16 +1,15 @@
 -- The present places so far are counted. Assumes nothing.
 use borrow.Author.Needs.{needs}
 use native.Mathlib.Omega.{arith}
-use Prim.Native.Nat.{ℕ, _+_, _-_, _*_, _≤_, _<_}
-use mathlib.Core.Path.{_≡_, refl, sym, ap, subst, _∙_}
-use lib.ListN.{length, getD, set, take, drop, length-set, length-append, length-drop}
+use Prim.Native.Nat.{_+_, _-_, _≤_, _<_}
+use mathlib.Core.Path.{_≡_, refl, sym, ap, _∙_}
+use lib.ListN.{length, getD, take}
 use Rattle.writer.proofs.OrderLaws.{absent-bits-is, absent-bits-not, count-absent-next, count-present-next}
 use mathlib.Core.Logic.{inl, inr}
 use mir.Syntax.{w16}
 use mir.Val.{SFits}
 use lib.IntN.{pos}
 use lib.Seq.{take-length}
-use Rattle.orders.proofs.Entries.{back}
 use Rattle.sheet.specs.Sheet.{presentCount}
 use Rattle.writer.proofs.present_count.Statement.{statement}
 use Rattle.writer.proofs.present_count.Tie as tie

@@ -1,15 +1,13 @@
 -- A label and a line feed. Assumes nothing.
 use borrow.Author.Needs.{needs}
 use native.Mathlib.Omega.{arith}
-use Prim.Native.Nat.{ℕ, _+_, _-_, _*_, _≤_, _<_}
-use mathlib.Core.Path.{_≡_, refl, sym, ap, subst, _∙_}
-use lib.ListN.{length, getD, set, take, drop, length-set, length-append, length-drop}
+use Prim.Native.Nat.{_-_}
+use mathlib.Core.Path.{sym, ap, _∙_}
+use lib.ListN.{length, take}
 use Rattle.writer.proofs.SlotLaws.{label-le, label-take, line-length}
 use Rattle.lettering.proofs.PutLaws.{puts-same, puts-length, puts-byte}
 use lib.Seq.{length-take-le}
-use Rattle.sheet.specs.Text.{ended}
 use Rattle.writer.specs.Parts.{labelOf}
-use Rattle.lettering.specs.Putting.{Puts}
 use borrow.Author.Needs.{needs}
 use Rattle.writer.proofs.put_label.Statement.{statement}
 use Rattle.writer.proofs.put_label.Tie as tie

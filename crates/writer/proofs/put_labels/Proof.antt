@@ -1,10 +1,10 @@
 -- The label lines so far are written, and the tail of the room is lent on. Assumes nothing.
 use borrow.Author.Needs.{needs}
 use native.Mathlib.Omega.{arith}
-use Prim.Native.Nat.{ℕ, _+_, _-_, _*_, _≤_, _<_}
-use mathlib.Core.Path.{_≡_, refl, sym, ap, subst, _∙_}
-use lib.ListN.{length, getD, set, take, drop, length-set, length-append, length-drop}
-use Rattle.writer.proofs.SlotLaws.{lines-mono, label-line-next, slot-length}
+use Prim.Native.Nat.{_+_, _-_, _*_, _≤_}
+use mathlib.Core.Path.{_≡_, refl, sym, ap}
+use lib.ListN.{length, length-append}
+use Rattle.writer.proofs.SlotLaws.{lines-mono, label-line-next}
 use Rattle.lettering.proofs.PutLaws.{puts-none, puts-same, puts-length, puts-tail, left-room}
 use Rattle.sheet.specs.Labels.{slot}
 use Rattle.sheet.specs.Sheet.{labelLines}

@@ -1,12 +1,11 @@
 -- The line of a present place. Assumes nothing.
 use borrow.Author.Needs.{needs}
 use native.Mathlib.Omega.{arith}
-use Prim.Native.Nat.{ℕ, _+_, _-_, _*_, _≤_, _<_, _/_, _%_}
-use mathlib.Core.Path.{_≡_, refl, sym, ap, subst, _∙_}
-use lib.ListN.{length, getD, set, take, drop, length-set, length-append, length-drop}
-use Rattle.lettering.proofs.PutLaws.{puts-inside, puts-tail, puts-same, left-room, sum-fits, part-room, first-room, puts-length, puts-none}
+use Prim.Native.Nat.{_+_, _-_, _/_, _%_}
+use mathlib.Core.Path.{refl, sym, ap, _∙_}
+use Rattle.lettering.proofs.PutLaws.{puts-inside, puts-tail, puts-same, left-room, sum-fits, part-room, first-room, puts-none}
 use Rattle.writer.proofs.OrderLaws.{absent-bits-is, absent-bits-not, line-absent, line-present, line-parts, row-few}
-use mathlib.Core.List.{[], _∷_, _++_, append-assoc}
+use mathlib.Core.List.{[], _∷_, _++_}
 use Rattle.orders.proofs.Entries.{present-bits}
 use Rattle.sheet.specs.Text.{text, signed, ended}
 use mir.Facts.{toZ-ofZ}

@@ -1,12 +1,11 @@
 -- A column, a blank and an order. Assumes nothing.
 use borrow.Author.Needs.{needs}
 use native.Mathlib.Omega.{arith}
-use Prim.Native.Nat.{ℕ, _+_, _-_, _*_, _≤_, _<_, _%_}
-use mathlib.Core.Path.{_≡_, refl, sym, ap, subst, _∙_}
-use lib.ListN.{length, getD, set, take, drop, length-set, length-append, length-drop}
-use Rattle.lettering.proofs.PutLaws.{puts-inside, puts-tail, puts-same, left-room, sum-fits, part-room, first-room, puts-length}
+use Prim.Native.Nat.{_+_, _-_, _%_}
+use mathlib.Core.Path.{refl, ap}
+use Rattle.lettering.proofs.PutLaws.{puts-inside, puts-tail, puts-same, left-room, sum-fits, part-room, first-room}
 use Rattle.writer.proofs.OrderLaws.{col-few}
-use mathlib.Core.List.{[], _∷_, _++_, append-assoc}
+use mathlib.Core.List.{[], _∷_, _++_}
 use Rattle.sheet.specs.Text.{text, signed, ended}
 use mir.Facts.{sfits-widen, sfits-toZ, fits-ofZ}
 use Rattle.lettering.proofs.TextLaws.{widened}

@@ -1,11 +1,10 @@
 -- A heading and the orders. Assumes nothing.
 use borrow.Author.Needs.{needs}
 use native.Mathlib.Omega.{arith}
-use Prim.Native.Nat.{ℕ, _+_, _-_, _*_, _≤_, _<_}
-use mathlib.Core.Path.{_≡_, refl, sym, ap, subst, _∙_}
-use lib.ListN.{length, getD, set, take, drop, length-set, length-append, length-drop}
-use Rattle.lettering.proofs.PutLaws.{puts-inside, puts-tail, puts-same, left-room, sum-fits, part-room, first-room, puts-length}
-use mathlib.Core.List.{[], _∷_, _++_, append-assoc}
+use Prim.Native.Nat.{_+_, _-_}
+use mathlib.Core.Path.{refl, ap}
+use Rattle.lettering.proofs.PutLaws.{puts-inside, puts-tail, puts-same, left-room, sum-fits, part-room, first-room}
+use mathlib.Core.List.{_++_}
 use Rattle.sheet.specs.Text.{text, ended, ordersHead}
 use Rattle.sheet.specs.Sheet.{presentCount, orderLines}
 use Rattle.writer.proofs.put_order_section.Statement.{statement}

@@ -1,13 +1,12 @@
 -- The row labels, and the other sections in the room that they leave. Assumes nothing.
 use borrow.Author.Needs.{needs}
 use native.Mathlib.Omega.{arith}
-use Prim.Native.Nat.{ℕ, _+_, _-_, _*_, _≤_, _<_}
-use mathlib.Core.Path.{_≡_, refl, sym, ap, subst, _∙_}
-use lib.ListN.{length, getD, set, take, drop, length-set, length-append, length-drop}
-use Rattle.lettering.proofs.PutLaws.{puts-inside, puts-tail, puts-same, left-room, sum-fits, part-room, first-room, puts-length}
-use mathlib.Core.List.{[], _∷_, _++_, append-assoc}
-use Rattle.sheet.specs.Text.{text, ended, rowsHead, colsHead}
-use Rattle.sheet.specs.Sheet.{labelLines, orderSection}
+use Prim.Native.Nat.{_+_, _-_}
+use mathlib.Core.Path.{refl}
+use Rattle.lettering.proofs.PutLaws.{puts-inside, puts-tail, left-room, sum-fits, part-room, first-room}
+use mathlib.Core.List.{_++_}
+use Rattle.sheet.specs.Text.{text, ended, rowsHead}
+use Rattle.sheet.specs.Sheet.{labelLines}
 use Rattle.writer.specs.Parts.{labelsOf, restText}
 use Rattle.writer.proofs.put_sheet.Statement.{statement}
 use Rattle.writer.proofs.put_sheet.Tie as tie

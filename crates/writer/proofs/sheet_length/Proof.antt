@@ -1,9 +1,9 @@
 -- The sheet is measured section by section. Assumes nothing.
 use borrow.Author.Needs.{needs}
 use native.Mathlib.Omega.{arith}
-use Prim.Native.Nat.{ℕ, _+_, _-_, _*_, _≤_, _<_}
-use mathlib.Core.Path.{_≡_, refl, sym, ap, subst, _∙_}
-use lib.ListN.{length, getD, set, take, drop, length-set, length-append, length-drop}
+use Prim.Native.Nat.{_-_}
+use mathlib.Core.Path.{ap}
+use lib.ListN.{length}
 use Rattle.writer.proofs.OrderLaws.{count-le, square-few}
 use Rattle.lettering.proofs.TextLaws.{text-within}
 use Rattle.sheet.specs.Text.{text}

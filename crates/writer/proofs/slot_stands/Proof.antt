@@ -1,10 +1,10 @@
 -- A place holds a label and then zero bytes. Assumes nothing.
 use borrow.Author.Needs.{needs}
 use native.Mathlib.Omega.{arith}
-use Prim.Native.Nat.{ℕ, _+_, _-_, _*_, _≤_, _<_}
-use mathlib.Core.Path.{_≡_, refl, sym, ap, subst, _∙_, subst⁻¹}
-use lib.ListN.{length, getD, set, take, drop, length-set, length-append, length-drop}
-use Rattle.orders.proofs.Entries.{tells-yes, tells-no}
+use Prim.Native.Nat.{ℕ, _-_, _<_}
+use mathlib.Core.Path.{_≡_, sym, ap, subst, _∙_, subst⁻¹}
+use lib.ListN.{length, getD, take}
+use Rattle.orders.proofs.Entries.{tells-no}
 use Rattle.writer.proofs.SlotLaws.{label-le, label-take, slot-tells}
 use lib.Seq.{length-take-le}
 use Rattle.sheet.specs.Labels.{Form}

@@ -1,11 +1,11 @@
 -- An order is as long as its digits and its minus. Assumes nothing.
 use borrow.Author.Needs.{needs}
 use native.Mathlib.Omega.{arith}
-use Prim.Native.Nat.{ℕ, _+_, _-_, _*_, _≤_, _<_}
-use mathlib.Core.Path.{_≡_, refl, sym, ap, subst, _∙_}
-use lib.ListN.{length, getD, set, take, drop, length-set, length-append, length-drop}
+use Prim.Native.Nat.{_+_, _-_}
+use mathlib.Core.Path.{_≡_, ap, _∙_}
+use lib.ListN.{length}
 use Rattle.writer.proofs.OrderLaws.{size-low, signed-short}
-use Rattle.lettering.proofs.TextLaws.{widened, signed-minus, signed-plus, text-length, text-within}
+use Rattle.lettering.proofs.TextLaws.{widened, signed-minus, signed-plus, text-within}
 use mir.Facts.{toZ-ofZ, sfits-widen, sfits-toZ, fits-ofZ}
 use Rattle.sheet.specs.Text.{text, signed}
 use lib.IntN.{natAbs}

@@ -82,19 +82,15 @@ printing-once {s} {room} {p} {p′} f g =
     (r, t, m)
 
 -- what N and the line then hold
-abbrev n-held : ℕ → Said ℕ → ℕ
-n-held n (gives k) = k
-n-held n (refuses k values) = n
-
 abbrev line-held : ℕ → Said ℕ → ℕ
 line-held line (gives k) = line
 line-held line (refuses k []) = line
 line-held line (refuses k (v ∷ vs)) = v
 
-tells-read-is : {s : Said ℕ} {r n line n′ line′ : ℕ} → ReturnsRead s r n line n′ line′ → (r ≡ number s) × (n′ ≡ n-held n s) × (line′ ≡ line-held line s)
-tells-read-is {n = n} {line = line} (read k e r a b) = (r ∙ sym (ap number e), a ∙ sym (ap (n-held n) e), b ∙ sym (ap (line-held line) e))
-tells-read-is {n = n} {line = line} (at-line k e r a b) = (r ∙ sym (ap number e), a ∙ sym (ap (n-held n) e), b ∙ sym (ap (line-held line) e))
-tells-read-is {n = n} {line = line} (refused k e r a b) = (r ∙ sym (ap number e), a ∙ sym (ap (n-held n) e), b ∙ sym (ap (line-held line) e))
+tells-read-is : {s : Said ℕ} {r n line n′ line′ : ℕ} → ReturnsRead s r n line n′ line′ → (r ≡ number s) × (n′ ≡ held itself n s) × (line′ ≡ line-held line s)
+tells-read-is {n = n} {line = line} (read k e r a b) = (r ∙ sym (ap number e), a ∙ sym (ap (held itself n) e), b ∙ sym (ap (line-held line) e))
+tells-read-is {n = n} {line = line} (at-line k e r a b) = (r ∙ sym (ap number e), a ∙ sym (ap (held itself n) e), b ∙ sym (ap (line-held line) e))
+tells-read-is {n = n} {line = line} (refused k e r a b) = (r ∙ sym (ap number e), a ∙ sym (ap (held itself n) e), b ∙ sym (ap (line-held line) e))
 
 -- The reader: what is returned, N, the line, the table and the labels.
 pub reading-once : {s : List ℕ} {m p p′ : Lent} {r q n line n′ line′ n″ line″ : ℕ}
@@ -106,7 +102,7 @@ reading-once {s} {m} {p} {p′} {n = n} {line = line} f g =
     let (a, b, c) = tells-read-is (f .told) in
     let (a′, b′, c′) = tells-read-is (g .told) in (
       a ∙ ap (λ (x : Read). number (reader.says x)) e ∙ sym a′,
-      b ∙ ap (λ (x : Read). n-held n (reader.says x)) e ∙ sym b′,
+      b ∙ ap (λ (x : Read). held itself n (reader.says x)) e ∙ sym b′,
       c ∙ ap (λ (x : Read). line-held line (reader.says x)) e ∙ sym c′,
       w,
     )

@@ -47,10 +47,6 @@ pub minus-is : (v : ℤ) → ltZ v (pos 0) ≡ true → pos 0 -ℤ v ≡ pos (na
 minus-is (pos n) t = absurd (omega (arith, signs, t))
 minus-is (negsuc n) t = +ℤ-idl (pos (suc n))
 
-pub plus-is : (v : ℤ) → ltZ v (pos 0) ≡ false → v ≡ pos (natAbs v)
-plus-is (pos n) t = refl
-plus-is (negsuc n) t = absurd (omega (arith, signs, t))
-
 -- the text of an order with and without a minus
 pub signed-minus : (v : ℤ) → ltZ v (pos 0) ≡ true → signed v ≡ 45 ∷ text (natAbs v)
 signed-minus (pos n) t = absurd (omega (arith, signs, t))

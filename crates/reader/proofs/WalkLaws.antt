@@ -60,9 +60,6 @@ pub record Inner (s : List ℕ) (kept : Store) (n section line at c k : ℕ) : T
 
 -- the line from at on, where its line feed is e bytes further
 module _ (s : List ℕ) (at e : ℕ) (inside : at ≤ length s) (l : LineEnd (drop at s) e) where
-  pub text-at : List ℕ
-  text-at = take (at + e - at) (drop at s)
-
   module _ (more : at + e ≢ length s) where
     pub feed-inside : at + e < length s
     feed-inside = omega (arith, l .inside, length-drop at s)

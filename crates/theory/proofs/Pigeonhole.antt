@@ -163,8 +163,3 @@ inverse-right n f apart into j h = go (exists (λ i. f i ≡ j) (λ i. ℕ-discr
         → (found (λ i. f i ≡ j) n r < n) × (f (found (λ i. f i ≡ j) n r) ≡ j)
     go (inl w) = (w .1, w .2)
     go (inr none) = let w = onto n f apart into j h in absurd (none (w .0) (w .1) (w .2))
-
-pub inverse-left : (n : ℕ) (f : ℕ → ℕ) → Apart n f → Into n n f → (i : ℕ) → i < n → inverse n f (f i) ≡ i
-inverse-left n f apart into i h =
-    let r = inverse-right n f apart into (f i) (into i h) in
-    apart (inverse n f (f i)) i (r .0) h (r .1)

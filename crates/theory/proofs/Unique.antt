@@ -126,16 +126,6 @@ module _ (n : ℕ) (a : ℕ → ℕ → ℤ) where
   stars-same e s =
       record { of-maxima = of-maxima-same e (s .of-maxima); first = λ τ c. s .first τ (of-maxima-same (λ i hi. sym (e i hi)) c) }
 
-  pub solution-same : {start l m σ τ : ℕ → ℕ} {h k : ℕ → ℤ} {s : ℤ} → Same l m → Same σ τ → Same h k → Solution n a start l σ h s
-      → Solution n a start m τ k s
-  solution-same e f g p =
-      record {
-        additions = least-same e (p .additions);
-        stars = stars-rows f (stars-same e (p .stars));
-        heads = λ j hj. rw (← (g j hj)) (head-same e (p .heads j hj));
-        is-sum = p .is-sum ∙ sum-same f;
-      }
-
   -- two solutions from one start agree in everything
   pub record OneSolution (l m σ τ : ℕ → ℕ) (h k : ℕ → ℤ) (s t : ℤ) : Type 0 where
     pub additions : Same l m

@@ -3,3 +3,4 @@ pub mod Figures
 pub mod Saying
 pub mod Unique
 pub mod Shown
+pub mod Fits

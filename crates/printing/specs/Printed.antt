@@ -48,3 +48,7 @@ printed (gives f) =
     ++ (labelSection headsHead (map signed (f .heads))
     ++ (labelSection sumHead (signed (f .sum) ∷ []) ++ labelSection indexHead (text (f .index) ∷ []))))
 printed (refuses k vs) = ended (refusedHead ++ (text k ++ values vs))
+
+-- a room in which every answer fits (`answers-fit`)
+abbrev pub enough : ℕ
+enough = 512

@@ -18,15 +18,16 @@ use orders::PLACES;
 use orders::ROWS;
 use orders::Refusal;
 use orders::number;
+use reader::LABELS;
 use reader::Read;
 use reader::read_sheet;
 
 const FEED: u8 = 10;
 
-// Bytes of a label buffer.
-const LABELS: usize = 256;
+// A room in which every answer fits: `answers-fit` in proofs/Fits.
+pub const ENOUGH: usize = 512;
 
-// A room in which every answer fits.
+// The page on which an answer is made up, with room for numbers of any size.
 const PAGE: usize = 2000;
 
 // The length of the printed answer, or the refusal.

@@ -18,7 +18,7 @@ use orders::SHEET;
 use sheet::WIDTH;
 
 // The bytes of a label buffer.
-const LABELS: usize = WIDTH * ROWS;
+pub const LABELS: usize = WIDTH * ROWS;
 
 const FEED: u8 = 10;
 

@@ -328,6 +328,20 @@ fn counted(caller: Caller, call: &str, jobs: &[Job], room: &mut Room) -> ! {
     unsafe { _exit(0) }
 }
 
+/// Every table that is timed, a line each: its kind, N, and the greatest sum, then the entries row by row.
+fn print_tables() {
+    let mut room = Room::new();
+    for kind in KINDS {
+        for n in SIZES {
+            for job in jobs(kind, n) {
+                library("solve", &job, &mut room);
+                let entries: Vec<String> = job.table.iter().map(|v| v.to_string()).collect();
+                println!("{kind} {n} {} {}", room.sum, entries.join(" "));
+            }
+        }
+    }
+}
+
 fn main() {
     let words: Vec<String> = std::env::args().skip(1).collect();
     let words: Vec<&str> = words.iter().map(|w| w.as_str()).collect();
@@ -346,8 +360,9 @@ fn main() {
             once(caller, call, &jobs, 20_000, &mut Room::new());
         }
         ["tables"] => println!("{TABLES}"),
+        ["dump"] => print_tables(),
         _ => {
-            eprintln!("usage: bench times [CALL] | stack | tables | count|spin CALL KIND N library|ordinary");
+            eprintln!("usage: bench times [CALL] | stack | tables | dump | count|spin CALL KIND N library|ordinary");
             std::process::exit(2);
         }
     }

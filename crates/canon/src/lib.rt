@@ -23,7 +23,9 @@ pub enum Verdict {
     Refused(Refusal),
 }
 
-// Route 1: the simplest canon of a table, with stars and heads, into the lent slices.
+// Route 1: the simplest canon of a table, with stars and heads, into the lent slices. Rules out additions that are no canon, or a
+// canon with a smaller one beside it in some row; stars that are not the first; a sum that is not the stars'; a refusal but the
+// lowest that applies; and a byte written where a refusal is given.
 pub fn solve(
     n: usize,
     table: &[i16],
@@ -47,7 +49,8 @@ pub fn solve(
     Answer::Sum(delivered(n, table, additions, rows, columns, adds, stars, heads))
 }
 
-// Route 2: the same from additions that are a canon.
+// Route 2: the same from additions that are a canon. Rules out what `solve` rules out, the additions handed back as they came,
+// and an answer from additions that are no canon.
 pub fn from_canon(
     n: usize,
     table: &[i16],
@@ -78,7 +81,8 @@ pub fn from_canon(
     Answer::Sum(delivered(n, table, additions, rows, columns, adds, stars, heads))
 }
 
-// Route 3: the same from a transversal of greatest sum.
+// Route 3: the same from a transversal of greatest sum. Rules out what `solve` rules out, the stars handed back where others come
+// first, and an answer from stars without the greatest sum.
 pub fn from_stars(
     n: usize,
     table: &[i16],
@@ -110,7 +114,8 @@ pub fn from_stars(
     Answer::Sum(delivered(n, table, additions, rows, columns, adds, stars, heads))
 }
 
-// The yes-or-no: are the additions the simplest canon?
+// The yes-or-no: are the additions the simplest canon? Rules out a yes to any other canon, a no to the simplest, and either where
+// a refusal is due.
 pub fn is_simplest(n: usize, table: &[i16], given: &[u32]) -> Verdict
     ensures { λ r. ⌜ Judges n (now (table .entry)) (now (given .entry)) r ⌝ }
 {

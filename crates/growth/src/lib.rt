@@ -25,7 +25,7 @@ pub struct Grown {
     pub columns: [usize; ROWS],
 }
 
-// How far a present raised order is below its column's head.
+// How far a present raised order is below its column's head. Rules out every other number.
 fn gap(order: i16, addition: u32, head: i32) -> u32
     requires { ⌜ Fitting order addition head × Present order ⌝ }
     ensures { λ r. ⌜ order +ℤ pos (addition + r) ≡ head ⌝ }
@@ -60,7 +60,8 @@ pub struct Least {
     pub column: usize,
 }
 
-// The lesser of the least gap and that of one more column.
+// The lesser of the least gap and that of one more column. Rules out the greater of the two, and a gap with another column's
+// number.
 fn lesser(least: Least, gap: u32, column: usize) -> Least
     ensures { λ r. ⌜ Lesser least gap column r ⌝ }
 {
@@ -120,14 +121,14 @@ fn look(
     least
 }
 
-// What a row or a column gets of a rise: all of it in the tree, else nothing.
+// What a row or a column gets of a rise: all of it in the tree, else nothing. Rules out a rise of what is outside the tree.
 fn share(rise: u32, taken: bool) -> u32
     ensures { λ r. ⌜ (r ≡ share rise taken) × (r ≤ rise) ⌝ }
 {
     if taken { rise } else { 0 }
 }
 
-// A head raised.
+// A head raised. Rules out every other head.
 fn lift(head: i32, rise: u32) -> i32
     requires { ⌜ (mag head ≤ room + order) × (rise ≤ 2 * room) ⌝ }
     ensures { λ r. ⌜ r ≡ head +ℤ pos rise ⌝ }
@@ -135,7 +136,7 @@ fn lift(head: i32, rise: u32) -> i32
     head + rise as i32
 }
 
-// A gap lowered, if it is one.
+// A gap lowered, if it is one. Rules out a gap made of what is none.
 fn lowered(gap: u32, rise: u32) -> u32
     requires { ⌜ (gap < none → rise ≤ gap) ⌝ }
     ensures { λ r. ⌜ Lowered rise gap r ⌝ }
@@ -269,8 +270,9 @@ fn free_column(
     ROWS
 }
 
-// An unmarked column that is tight for a row of a tree from row s, or ROWS where there is none to reach. Where row s itself is tight in
-// one, that row is the tree; else a tree is grown. On tables with many ties most rows need no tree.
+// An unmarked column that is tight for a row of a tree from row s, or ROWS where there is none to reach. Where row s itself is
+// tight in one, that row is the tree; else a tree is grown. On tables with many ties most rows need no tree. Rules out what
+// `reach` rules out.
 fn meet(
     table: &[i16],
     n: usize,
@@ -341,7 +343,8 @@ fn flip(
     columns[s] = j;
 }
 
-// One more row, row s, gets its mark; false where there is no complete transversal.
+// One more row, row s, gets its mark; false where there is no complete transversal. Rules out a row below s that loses its mark,
+// two rows with one column, additions above a canon's, and false where a complete transversal exists.
 fn insert(
     table: &[i16],
     n: usize,
@@ -383,7 +386,8 @@ fn insert(
     true
 }
 
-// The heads of all columns; false where a column has no order.
+// The heads of all columns; false where a column has no order. Rules out a head that no order reaches or that one exceeds, and
+// false where every column has an order.
 fn first_heads(table: &[i16], n: usize, start: &[u32; ROWS], heads: &mut [i32; ROWS]) -> bool
     requires { ⌜ Square (now table) n × Roomy n (now start) × Long (now heads) ⌝ }
     ensures { λ r. ⌜ FirstOf (now (table .entry)) n (now (start .entry)) r (now (heads .exit)) ⌝ }

@@ -60,7 +60,7 @@ pub fn tested(
     FirstTests::Passed
 }
 
-// Are all additions handed in within the limit?
+// Are all additions handed in within the limit? Rules out 10,001 let through and 10,000 turned away.
 pub fn additions_stand(given: &[u32]) -> bool
     ensures { λ r. ⌜ Tells r ((i : ℕ) → i < length (now (given .entry)) → nums (now (given .entry)) i ≤ handed) ⌝ }
 {
@@ -74,7 +74,7 @@ pub fn additions_stand(given: &[u32]) -> bool
     true
 }
 
-// The numbers of a lent slice, held by value.
+// The numbers of a lent slice, held by value. Rules out another number in any place.
 pub fn held(given: &[u32]) -> [u32; ROWS]
     requires { ⌜ length (now given) ≤ rows ⌝ }
     ensures { λ r. ⌜ ((i : ℕ) → i < length (now (given .entry)) → nums r i ≡ nums (now (given .entry)) i) ⌝ }
@@ -88,7 +88,7 @@ pub fn held(given: &[u32]) -> [u32; ROWS]
     kept
 }
 
-// Are the first n additions of two arrays the same?
+// Are the first n additions of two arrays the same? Rules out a difference overlooked, and one seen past row n.
 pub fn same(n: usize, left: &[u32; ROWS], right: &[u32; ROWS]) -> bool
     requires { ⌜ n ≤ rows ⌝ }
     ensures { λ r. ⌜ Tells r ((i : ℕ) → i < n → nums (now (left .entry)) i ≡ nums (now (right .entry)) i) ⌝ }
@@ -103,7 +103,7 @@ pub fn same(n: usize, left: &[u32; ROWS], right: &[u32; ROWS]) -> bool
     true
 }
 
-// Is the place of each row in its column present?
+// Is the place of each row in its column present? Rules out an absent place overlooked.
 pub fn all_present(table: &[i16], n: usize, columns: &[usize; ROWS]) -> bool
     requires { ⌜ Square (now table) n × ((i : ℕ) → i < n → nums (now columns) i < n) ⌝ }
     ensures { λ r. ⌜ Tells r ((i : ℕ) → i < n → Present (entry (now (table .entry)) n i (nums (now (columns .entry)) i))) ⌝ }
@@ -125,7 +125,8 @@ pub struct Listed {
     pub columns: [usize; ROWS],
 }
 
-// The marks of a list of stars, which is to have each number from 1 to n once.
+// The marks of a list of stars, which is to have each number from 1 to n once. Rules out a number outside 1 to n or given twice
+// that passes, and marks that are not the list's.
 pub fn listed_marks(n: usize, given: &[u32]) -> Listed
     requires { ⌜ (n ≤ rows) × (length (now given) ≡ n) ⌝ }
     ensures { λ r. ⌜ ListedAs n (now (given .entry)) r ⌝ }

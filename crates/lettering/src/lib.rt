@@ -10,7 +10,7 @@ const FEED: u8 = 10;
 
 const MINUS: u8 = 45;
 
-// The digits of a number.
+// The digits of a number. Rules out another count than that of the number's text.
 pub fn digits(v: usize) -> usize
     ensures { λ r. ⌜ r ≡ length (text v) ⌝ }
 {
@@ -20,7 +20,7 @@ pub fn digits(v: usize) -> usize
     digits(v / 10) + 1
 }
 
-// A number at the front of the room; its length.
+// A number at the front of the room; its length. Rules out a leading zero, another digit, and a byte changed behind the number.
 pub fn put_number(v: usize, out: &mut [u8]) -> usize
     requires { ⌜ length (text v) ≤ length (now out) ⌝ }
     ensures { λ r. ⌜ Puts (text v) (now (out .entry)) (now (out .exit)) r ⌝ }
@@ -34,7 +34,7 @@ pub fn put_number(v: usize, out: &mut [u8]) -> usize
     k + 1
 }
 
-// Bytes at the front of the room; their number.
+// Bytes at the front of the room; their number. Rules out a byte left out, and one changed behind them.
 pub fn put(text: &[u8], out: &mut [u8]) -> usize
     requires { ⌜ length (now text) ≤ length (now out) ⌝ }
     ensures { λ r. ⌜ Puts (now (text .entry)) (now (out .entry)) (now (out .exit)) r ⌝ }
@@ -47,7 +47,7 @@ pub fn put(text: &[u8], out: &mut [u8]) -> usize
     i
 }
 
-// A number and one byte behind it.
+// A number and one byte behind it. Rules out another byte there, and one changed behind it.
 pub fn put_count(v: usize, last: u8, out: &mut [u8]) -> usize
     requires { ⌜ length (text v ++ last ∷ []) ≤ length (now out) ⌝ }
     ensures { λ r. ⌜ Puts (text v ++ last ∷ []) (now (out .entry)) (now (out .exit)) r ⌝ }
@@ -57,7 +57,7 @@ pub fn put_count(v: usize, last: u8, out: &mut [u8]) -> usize
     k + 1
 }
 
-// A heading line in the room.
+// A heading line in the room. Rules out a heading without its count or its line feed.
 pub fn put_heading(head: &[u8], count: usize, out: &mut [u8]) -> usize
     requires { ⌜ length (ended (now head ++ text count)) ≤ length (now out) ⌝ }
     ensures { λ r. ⌜ Puts (ended (now (head .entry) ++ text count)) (now (out .entry)) (now (out .exit)) r ⌝ }
@@ -67,7 +67,7 @@ pub fn put_heading(head: &[u8], count: usize, out: &mut [u8]) -> usize
     a + b
 }
 
-// A signed number without its sign.
+// A signed number without its sign. Rules out the least number's sign lost in 32 bits.
 pub fn magnitude(v: i32) -> usize
     ensures { λ r. ⌜ r ≡ natAbs v ⌝ }
 {
@@ -78,7 +78,7 @@ pub fn magnitude(v: i32) -> usize
     wide as usize
 }
 
-// A signed number in the room.
+// A signed number in the room. Rules out a minus before 0 and one left out.
 pub fn put_value(v: i32, out: &mut [u8]) -> usize
     requires { ⌜ length (signed v) ≤ length (now out) ⌝ }
     ensures { λ r. ⌜ Puts (signed v) (now (out .entry)) (now (out .exit)) r ⌝ }
@@ -92,7 +92,7 @@ pub fn put_value(v: i32, out: &mut [u8]) -> usize
     put_number(size, out)
 }
 
-// A signed number and a line feed.
+// A signed number and a line feed. Rules out a line that is not ended.
 pub fn put_value_line(v: i32, out: &mut [u8]) -> usize
     requires { ⌜ length (ended (signed v)) ≤ length (now out) ⌝ }
     ensures { λ r. ⌜ Puts (ended (signed v)) (now (out .entry)) (now (out .exit)) r ⌝ }

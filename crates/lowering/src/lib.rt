@@ -9,7 +9,8 @@ use orders::ROWS;
 use orders::place;
 use orders::raise;
 
-// The unsettled row with the least amount to fall, or n where every row is settled.
+// The unsettled row with the least amount to fall, or n where every row is settled. Rules out a settled row, a row with more to
+// fall than another, and n while a row is unsettled.
 fn least_slack(
     n: usize,
     additions: &[u32; ROWS],
@@ -38,7 +39,7 @@ fn least_slack(
     best
 }
 
-// The additions with the amount d taken off every unsettled row.
+// The additions with the amount d taken off every unsettled row. Rules out a settled row that falls, and another that does not.
 fn lowered(n: usize, additions: [u32; ROWS], settled: &[bool; ROWS], d: u32) -> [u32; ROWS]
     requires { ⌜ (n ≤ rows) × Spare n additions (now settled) d ⌝ }
     ensures { λ r. ⌜ ((i : ℕ) → i < n → Fallen (nums additions) (flags (now (settled .entry))) d i (nums r i)) ⌝ }
@@ -54,7 +55,8 @@ fn lowered(n: usize, additions: [u32; ROWS], settled: &[bool; ROWS], d: u32) -> 
     next
 }
 
-// The least addition at which an order is not exceeded by another of its column, raised.
+// The least addition at which an order is not exceeded by another of its column, raised. Rules out an addition that leaves the
+// order exceeded, and a larger one than is needed.
 fn pull(other: i16, addition: u32, order: i16) -> u32
     requires { ⌜ addition ≤ room ⌝ }
     ensures { λ r. ⌜ Pull other addition order r ⌝ }
@@ -67,7 +69,8 @@ fn pull(other: i16, addition: u32, order: i16) -> u32
     (raised - own) as u32
 }
 
-// The floors, once row k is settled: no row may fall below what keeps its own star a maximum beside row k.
+// The floors, once row k is settled: no row may fall below what keeps its own star a maximum beside row k. Rules out a floor
+// below that, and one above it and above the floor that stood.
 fn pulled(
     table: &[i16],
     n: usize,
@@ -95,7 +98,8 @@ fn pulled(
     next
 }
 
-// From a canon down to the least canon above the floors.
+// From a canon down to the least canon above the floors. Rules out additions that are no canon, that pass a floor, or that a
+// smaller canon above the floors has beside them.
 pub fn lower(
     n: usize,
     table: &[i16],

@@ -37,7 +37,7 @@ pub enum Refusal {
     Room,
 }
 
-// Document 01's number of a refusal.
+// Document 01's number of a refusal. Rules out every other number.
 pub fn number(r: Refusal) -> u32
     ensures { λ k. ⌜ k ≡ numberOf r ⌝ }
 {
@@ -57,7 +57,7 @@ pub fn number(r: Refusal) -> u32
     }
 }
 
-// Is an entry absent, or an order within the limit?
+// Is an entry absent, or an order within the limit? Rules out 101 and −101 let through, and an absent place turned away.
 pub fn entry_stands(v: i16) -> bool
     ensures { λ r. ⌜ Tells r (Present v → Order order v) ⌝ }
 {
@@ -70,7 +70,7 @@ pub fn entry_stands(v: i16) -> bool
     v <= ORDER
 }
 
-// Are all entries of a table absent, or orders within the limit?
+// Are all entries of a table absent, or orders within the limit? Rules out an entry passed over.
 pub fn entries_stand(table: &[i16]) -> bool
     ensures { λ r. ⌜ Tells r (Entries order (now (table .entry))) ⌝ }
 {
@@ -85,7 +85,7 @@ pub fn entries_stand(table: &[i16]) -> bool
     true
 }
 
-// What stands in row i and column j.
+// What stands in row i and column j. Rules out row and column exchanged.
 pub fn place(table: &[i16], n: usize, i: usize, j: usize) -> i16
     requires { ⌜ Square (now table) n × (i < n) × (j < n) ⌝ }
     ensures { λ r. ⌜ r ≡ entry (now (table .entry)) n i j ⌝ }
@@ -93,7 +93,7 @@ pub fn place(table: &[i16], n: usize, i: usize, j: usize) -> i16
     table[i * n + j]
 }
 
-// An order raised by an addition.
+// An order raised by an addition. Rules out every other number.
 pub fn raise(order: i16, addition: u32) -> i32
     requires { ⌜ addition ≤ room ⌝ }
     ensures { λ r. ⌜ r ≡ order +ℤ pos addition ⌝ }
@@ -118,7 +118,8 @@ pub struct Top {
     pub head: i32,
 }
 
-// The greater of a head and one more order of the column, raised.
+// The greater of a head and one more order of the column, raised. Rules out the smaller of the two, and an absent place taken for
+// an order.
 fn taller(top: Top, order: i16, addition: u32) -> Top
     requires { ⌜ addition ≤ room ⌝ }
     ensures { λ r. ⌜ Taller order addition top r ⌝ }
@@ -138,7 +139,8 @@ fn taller(top: Top, order: i16, addition: u32) -> Top
     }
 }
 
-// The head of column j with the additions given.
+// The head of column j with the additions given. Rules out a head that no order reaches or that one exceeds, and an absent column
+// taken for one with the head 0.
 pub fn head(table: &[i16], n: usize, additions: &[u32; ROWS], j: usize) -> Top
     requires { ⌜ Square (now table) n × (j < n) × Roomy n (now additions) ⌝ }
     ensures { λ r. ⌜ TopOf (now (table .entry)) n n (now (additions .entry)) j r ⌝ }

@@ -14,7 +14,7 @@ use orders::head;
 use orders::place;
 use stars::first_stars;
 
-// The heads of all columns.
+// The heads of all columns. Rules out a head that is not the largest raised order of its column.
 fn heads_of(table: &[i16], n: usize, additions: &[u32; ROWS]) -> [i32; ROWS]
     requires { ⌜ Square (now table) n × Roomy n (now additions) × Occupied n (entry (now table) n) ⌝ }
     ensures { λ r. ⌜ Heads n (entry (now (table .entry)) n) (nums (now (additions .entry))) (ints r) ⌝ }
@@ -30,7 +30,7 @@ fn heads_of(table: &[i16], n: usize, additions: &[u32; ROWS]) -> [i32; ROWS]
     heads
 }
 
-// A sum with one more order.
+// A sum with one more order. Rules out every other number.
 fn plus(sum: i32, order: i16) -> i32
     requires { ⌜ mag sum ≤ room ⌝ }
     ensures { λ r. ⌜ r ≡ sum +ℤ order ⌝ }
@@ -38,7 +38,7 @@ fn plus(sum: i32, order: i16) -> i32
     sum + order as i32
 }
 
-// The total of the starred orders as they stand in the table.
+// The total of the starred orders as they stand in the table. Rules out orders counted as raised, and a row left out.
 fn sum_of(table: &[i16], n: usize, columns: &[usize; ROWS]) -> i32
     requires { ⌜ Square (now table) n × ((i : ℕ) → i < n → nums (now columns) i < n) ⌝ }
     ensures { λ r. ⌜ r ≡ sum n (entry (now (table .entry)) n) (nums (now (columns .entry))) ⌝ }
@@ -53,7 +53,7 @@ fn sum_of(table: &[i16], n: usize, columns: &[usize; ROWS]) -> i32
     sum
 }
 
-// The columns of the first n rows, numbered from 1.
+// The columns of the first n rows, numbered from 1. Rules out columns numbered from 0.
 fn numbered(n: usize, columns: &[usize; ROWS]) -> [u32; ROWS]
     requires { ⌜ (n ≤ rows) × ((i : ℕ) → i < n → nums (now columns) i < n) ⌝ }
     ensures { λ r. ⌜ ((i : ℕ) → i < n → nums r i ≡ nums (now (columns .entry)) i + 1) ⌝ }
@@ -67,7 +67,7 @@ fn numbered(n: usize, columns: &[usize; ROWS]) -> [u32; ROWS]
     stars
 }
 
-// Fixed numbers copied out into a lent slice.
+// Fixed numbers copied out into a lent slice. Rules out a number left as it was.
 fn copy_u32(from: [u32; ROWS], to: &mut [u32])
     requires { ⌜ length (now to) ≤ rows ⌝ }
     ensures { λ _. ⌜ now (to .exit) ≡ take (length (now (to .entry))) from ⌝ }
@@ -79,6 +79,7 @@ fn copy_u32(from: [u32; ROWS], to: &mut [u32])
     }
 }
 
+// The same of signed numbers.
 fn copy_i32(from: [i32; ROWS], to: &mut [i32])
     requires { ⌜ length (now to) ≤ rows ⌝ }
     ensures { λ _. ⌜ now (to .exit) ≡ take (length (now (to .entry))) from ⌝ }
@@ -99,7 +100,8 @@ pub struct Whole {
     pub sum: i32,
 }
 
-// The whole answer of a canon, from the marks of any complete transversal of its column maxima.
+// The whole answer of a canon, from the marks of any complete transversal of its column maxima. Rules out stars that are not the
+// first, and heads or a sum of other additions.
 fn completed(
     n: usize,
     table: &[i16],
@@ -122,7 +124,8 @@ fn completed(
     }
 }
 
-// The whole answer copied out into the lent slices, which have a place for each row.
+// The whole answer copied out into the lent slices, which have a place for each row. Rules out a list copied into another's
+// slice.
 fn hand_out(answer: Whole, adds: &mut [u32], stars: &mut [u32], heads: &mut [i32])
     requires { ⌜ (length (now adds) ≤ rows) × (length (now stars) ≤ rows) × (length (now heads) ≤ rows) ⌝ }
     ensures { λ _. ⌜ HandedOut answer (now (adds .entry)) (now (stars .entry)) (now (heads .entry)) (now (adds .exit)) (now (stars .exit)) (now (heads .exit)) ⌝ }
@@ -135,7 +138,8 @@ fn hand_out(answer: Whole, adds: &mut [u32], stars: &mut [u32], heads: &mut [i32
     copy_i32(h, heads);
 }
 
-// The whole answer of a canon, worked out by value and then copied out into the lent slices; returned is the sum.
+// The whole answer of a canon, worked out by value and then copied out into the lent slices; returned is the sum. Rules out a
+// slice that holds less than the whole of its list.
 pub fn delivered(
     n: usize,
     table: &[i16],

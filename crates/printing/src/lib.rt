@@ -36,7 +36,7 @@ pub enum Printed {
     Refused(Refusal),
 }
 
-// A number and a line feed.
+// A number and a line feed. Rules out a line that is not ended, and one longer than its room.
 fn put_number_line(v: u32, out: &mut [u8]) -> usize
     requires { ⌜ 12 ≤ length (now out) ⌝ }
     ensures { λ r. ⌜ PutsShort 12 (ended (text v)) (now (out .entry)) (now (out .exit)) r ⌝ }
@@ -44,7 +44,7 @@ fn put_number_line(v: u32, out: &mut [u8]) -> usize
     put_count(v as usize, FEED, out)
 }
 
-// A signed number and a line feed.
+// A signed number and a line feed. Rules out the same.
 fn put_signed_line(v: i32, out: &mut [u8]) -> usize
     requires { ⌜ 12 ≤ length (now out) ⌝ }
     ensures { λ r. ⌜ PutsShort 12 (ended (signed v)) (now (out .entry)) (now (out .exit)) r ⌝ }
@@ -52,7 +52,7 @@ fn put_signed_line(v: i32, out: &mut [u8]) -> usize
     put_value_line(v, out)
 }
 
-// Numbers, one a line.
+// Numbers, one a line. Rules out a number left out, or two on a line.
 fn put_number_lines(values: &[u32], out: &mut [u8]) -> usize
     requires { ⌜ 12 * length (now values) ≤ length (now out) ⌝ }
     ensures { λ r. ⌜ PutsShort (12 * length (now (values .entry))) (labelLines (map text (now (values .entry)))) (now (out .entry)) (now (out .exit)) r ⌝ }
@@ -66,7 +66,7 @@ fn put_number_lines(values: &[u32], out: &mut [u8]) -> usize
     at
 }
 
-// Signed numbers, one a line.
+// Signed numbers, one a line. Rules out the same.
 fn put_signed_lines(values: &[i32], out: &mut [u8]) -> usize
     requires { ⌜ 12 * length (now values) ≤ length (now out) ⌝ }
     ensures { λ r. ⌜ PutsShort (12 * length (now (values .entry))) (labelLines (map signed (now (values .entry)))) (now (out .entry)) (now (out .exit)) r ⌝ }
@@ -80,7 +80,7 @@ fn put_signed_lines(values: &[i32], out: &mut [u8]) -> usize
     at
 }
 
-// A section of numbers in the room.
+// A section of numbers in the room. Rules out another count than that of the lines.
 fn put_number_section(name: &[u8], values: &[u32], out: &mut [u8]) -> usize
     requires { ⌜ (length (now name) ≤ 8) × (length (now values) ≤ rows) × (part ≤ length (now out)) ⌝ }
     ensures { λ r. ⌜ PutsShort part (labelSection (now (name .entry)) (map text (now (values .entry)))) (now (out .entry)) (now (out .exit)) r ⌝ }
@@ -90,7 +90,7 @@ fn put_number_section(name: &[u8], values: &[u32], out: &mut [u8]) -> usize
     a + b
 }
 
-// A section of signed numbers in the room.
+// A section of signed numbers in the room. Rules out the same.
 fn put_signed_section(name: &[u8], values: &[i32], out: &mut [u8]) -> usize
     requires { ⌜ (length (now name) ≤ 8) × (length (now values) ≤ rows) × (part ≤ length (now out)) ⌝ }
     ensures { λ r. ⌜ PutsShort part (labelSection (now (name .entry)) (map signed (now (values .entry)))) (now (out .entry)) (now (out .exit)) r ⌝ }
@@ -100,7 +100,7 @@ fn put_signed_section(name: &[u8], values: &[i32], out: &mut [u8]) -> usize
     a + b
 }
 
-// A section of numbers after the first bytes of a page; where it ends.
+// A section of numbers after the first bytes of a page; where it ends. Rules out a byte of the sections before it changed.
 fn add_numbers(name: &[u8], values: &[u32], at: usize, page: &mut [u8]) -> usize
     requires { ⌜ (length (now name) ≤ 8) × (length (now values) ≤ rows) × (at + part ≤ length (now page)) ⌝ }
     ensures { λ r. ⌜ Follows (labelSection (now (name .entry)) (map text (now (values .entry)))) at (now (page .entry)) (now (page .exit)) r ⌝ }
@@ -109,7 +109,7 @@ fn add_numbers(name: &[u8], values: &[u32], at: usize, page: &mut [u8]) -> usize
     at + k
 }
 
-// A section of signed numbers after the first bytes of a page; where it ends.
+// A section of signed numbers after the first bytes of a page; where it ends. Rules out the same.
 fn add_signed(name: &[u8], values: &[i32], at: usize, page: &mut [u8]) -> usize
     requires { ⌜ (length (now name) ≤ 8) × (length (now values) ≤ rows) × (at + part ≤ length (now page)) ⌝ }
     ensures { λ r. ⌜ Follows (labelSection (now (name .entry)) (map signed (now (values .entry)))) at (now (page .entry)) (now (page .exit)) r ⌝ }
@@ -118,7 +118,7 @@ fn add_signed(name: &[u8], values: &[i32], at: usize, page: &mut [u8]) -> usize
     at + k
 }
 
-// The index figure: the largest addition.
+// The index figure: the largest addition. Rules out a number that is no addition, and one that an addition exceeds.
 fn largest(adds: &[u32]) -> u32
     requires { ⌜ 1 ≤ length (now adds) ⌝ }
     ensures { λ r. ⌜ Largest (now (adds .entry)) r ⌝ }
@@ -134,7 +134,7 @@ fn largest(adds: &[u32]) -> u32
     most
 }
 
-// The figures of a table on the page, section by section.
+// The figures of a table on the page, section by section. Rules out sections in another order, and one list under another's name.
 fn put_figures(
     adds: &[u32],
     stars: &[u32],
@@ -155,7 +155,7 @@ fn put_figures(
     add_numbers(b"index ", &figure, at, page)
 }
 
-// A refusal on the page.
+// A refusal on the page. Rules out a wrong line without its number, and a line number behind another refusal.
 fn put_refusal(r: Refusal, page: &mut [u8]) -> usize
     requires { ⌜ whole ≤ length (now page) ⌝ }
     ensures { λ k. ⌜ PutsShort whole (printed (refusal r)) (now (page .entry)) (now (page .exit)) k ⌝ }
@@ -167,7 +167,7 @@ fn put_refusal(r: Refusal, page: &mut [u8]) -> usize
     put_heading(b"refused ", code, page)
 }
 
-// The answer of a table on the page.
+// The answer of a table on the page. Rules out figures where no complete transversal exists, and a refusal where one does.
 fn put_table(n: usize, table: &[i16], page: &mut [u8]) -> usize
     requires { ⌜ (Tabled n (now table)) × (whole ≤ length (now page)) ⌝ }
     ensures { λ r. ⌜ Prints (TableSays n (now (table .entry))) (now (page .entry)) (now (page .exit)) r ⌝ }
@@ -185,7 +185,7 @@ fn put_table(n: usize, table: &[i16], page: &mut [u8]) -> usize
     }
 }
 
-// The answer of a sheet on the page.
+// The answer of a sheet on the page. Rules out figures of another table than the sheet's.
 fn put_answer(sheet: &[u8], page: &mut [u8]) -> usize
     requires { ⌜ whole ≤ length (now page) ⌝ }
     ensures { λ r. ⌜ Prints (SheetSays (now (sheet .entry))) (now (page .entry)) (now (page .exit)) r ⌝ }

@@ -73,7 +73,7 @@ struct Walked {
     line: usize,
 }
 
-// The bytes before the first line feed; all of them where there is none.
+// The bytes before the first line feed; all of them where there is none. Rules out a later line feed taken for the first.
 fn line_end(s: &[u8]) -> usize
     ensures { λ r. ⌜ LineEnd (now (s .entry)) r ⌝ }
 {
@@ -87,6 +87,7 @@ fn line_end(s: &[u8]) -> usize
     i
 }
 
+// Is a byte a digit?
 fn is_digit(b: u8) -> bool
     ensures { λ r. ⌜ Tells r ((48 ≤ b) × (b ≤ 57)) ⌝ }
 {
@@ -97,6 +98,7 @@ fn is_digit(b: u8) -> bool
 }
 
 // The number at the front of s, up to the first byte that is no digit: nothing if it has a leading zero or is above the limit.
+// Rules out a number cut short, and nothing where a number stands.
 fn number(s: &[u8], limit: usize) -> Front
     requires { ⌜ limit ≤ 65536 ⌝ }
     ensures { λ r. ⌜ FrontOf (now (s .entry)) limit r ⌝ }
@@ -128,7 +130,7 @@ fn number(s: &[u8], limit: usize) -> Front
     Front::Number { v, next: i }
 }
 
-// The number that s is.
+// The number that s is. Rules out bytes behind the number.
 fn whole(s: &[u8], limit: usize) -> Count
     requires { ⌜ limit ≤ 65536 ⌝ }
     ensures { λ r. ⌜ CountOf (now (s .entry)) limit r ⌝ }
@@ -145,7 +147,8 @@ fn whole(s: &[u8], limit: usize) -> Count
     }
 }
 
-// A number of 1 to the limit with a blank after it; the bytes of both are taken.
+// A number of 1 to the limit with a blank after it; the bytes of both are taken. Rules out 0, and a number with another byte
+// behind it.
 fn field(s: &[u8], limit: usize) -> Front
     requires { ⌜ limit ≤ 65536 ⌝ }
     ensures { λ r. ⌜ FieldOf (now (s .entry)) limit r ⌝ }
@@ -168,7 +171,7 @@ fn field(s: &[u8], limit: usize) -> Front
     }
 }
 
-// The order that s is.
+// The order that s is. Rules out a minus before 0, and an order outside −100 to 100.
 fn signed_value(s: &[u8]) -> Value
     ensures { λ r. ⌜ ValueOf (now (s .entry)) r ⌝ }
 {
@@ -195,7 +198,8 @@ fn signed_value(s: &[u8]) -> Value
     }
 }
 
-// The order that a line says: its row, its column and the order, each handed the rest of the line.
+// The order that a line says: its row, its column and the order, each handed the rest of the line. Rules out a row or a column
+// outside 1 to N, and row and column exchanged.
 fn order_line(line: &[u8], n: usize) -> Place
     requires { ⌜ n ≤ 65536 ⌝ }
     ensures { λ r. ⌜ PlaceOf n (now (line .entry)) r ⌝ }
@@ -217,7 +221,7 @@ fn order_line(line: &[u8], n: usize) -> Place
     }
 }
 
-// Does s begin with these bytes?
+// Does s begin with these bytes? Rules out bytes that are shorter than these or differ from them.
 fn starts_with(s: &[u8], head: &[u8]) -> bool
     ensures { λ r. ⌜ Tells r (now (s .entry) ≡ now (head .entry) ++ drop (length (now (head .entry))) (now (s .entry))) ⌝ }
 {
@@ -234,7 +238,7 @@ fn starts_with(s: &[u8], head: &[u8]) -> bool
     true
 }
 
-// The count after these bytes: it takes the rest of the line and lies within the bounds.
+// The count after these bytes: it takes the rest of the line and lies within the bounds. Rules out a count outside the bounds.
 fn count_after(line: &[u8], head: &[u8], low: usize, high: usize) -> Count
     requires { ⌜ high ≤ 65536 ⌝ }
     ensures { λ r. ⌜ AfterOf (now (line .entry)) (now (head .entry)) low high r ⌝ }
@@ -256,7 +260,8 @@ fn count_after(line: &[u8], head: &[u8], low: usize, high: usize) -> Count
     }
 }
 
-// The count of the heading that comes after so many sections.
+// The count of the heading that comes after so many sections. Rules out another section's heading, and a count of columns that is
+// not N.
 fn heading(line: &[u8], section: usize, n: usize) -> Count
     requires { ⌜ (section < 3) × (n ≤ rows) ⌝ }
     ensures { λ r. ⌜ HeadingOf (now (line .entry)) section n r ⌝ }
@@ -268,7 +273,8 @@ fn heading(line: &[u8], section: usize, n: usize) -> Count
     }
 }
 
-// The line's bytes in place k of the labels, filled up with zero bytes that stand there already.
+// The line's bytes in place k of the labels, filled up with zero bytes that stand there already. Rules out a byte of another
+// label changed.
 fn put_label(k: usize, line: &[u8], labels: &mut [u8; LABELS])
     requires { ⌜ (width * k + length (now line) ≤ width * rows) × (length (now labels) ≡ width * rows) ⌝ }
     ensures { λ _. ⌜ now (labels .exit) ≡ paste (now (labels .entry)) (width * k) (now (line .entry)) (length (now (line .entry))) ⌝ }
@@ -426,7 +432,7 @@ fn copy_bytes(from: &[u8; LABELS], count: usize, to: &mut [u8])
     }
 }
 
-// The same of entries.
+// The same of entries. Rules out an entry changed after them.
 fn copy_entries(from: &[i16; PLACES], count: usize, to: &mut [i16])
     requires { ⌜ (count ≤ rows * rows) × (count ≤ length (now to)) × (length (now from) ≡ rows * rows) ⌝ }
     ensures { λ _. ⌜ now (to .exit) ≡ take count (now (from .entry)) ++ drop count (now (to .entry)) ⌝ }

@@ -46,6 +46,7 @@ struct Heads {
     next: usize,
 }
 
+// A byte as a number.
 fn wide(byte: u8) -> u64
     ensures { λ r. ⌜ r ≡ byte ⌝ }
 {
@@ -132,6 +133,7 @@ fn at_most(size: u64, most: usize) -> usize
     size as usize
 }
 
+// A number of the file as an order; one that is too large becomes the largest.
 fn order(negative: bool, size: u64) -> i16 {
     if size > 32767 {
         return ABSENT;
@@ -146,6 +148,7 @@ fn order(negative: bool, size: u64) -> i16 {
     -value
 }
 
+// A number of the file as an addition, in the same way.
 fn addition(size: u64) -> u32 {
     if size > 4294967295 {
         return 4294967295;
@@ -153,6 +156,7 @@ fn addition(size: u64) -> u32 {
     size as u32
 }
 
+// A number of the file as a head, in the same way.
 fn head(negative: bool, size: u64) -> i32 {
     if size > 2147483647 {
         return 2147483647;
@@ -164,6 +168,7 @@ fn head(negative: bool, size: u64) -> i32 {
     value
 }
 
+// A table of the file: its count and its entries. Rules out a count above the room.
 fn read_table(text: &[u8], from: usize) -> Table
     ensures { λ r. ⌜ r .count ≤ length (r .values) ⌝ }
 {
@@ -185,6 +190,7 @@ fn read_table(text: &[u8], from: usize) -> Table
     }
 }
 
+// A list of additions or stars, in the same way.
 fn read_list(text: &[u8], from: usize) -> List
     ensures { λ r. ⌜ r .count ≤ length (r .values) ⌝ }
 {
@@ -206,6 +212,7 @@ fn read_list(text: &[u8], from: usize) -> List
     }
 }
 
+// A list of heads, in the same way.
 fn read_heads(text: &[u8], from: usize) -> Heads
     ensures { λ r. ⌜ r .count ≤ length (r .values) ⌝ }
 {

@@ -18,7 +18,8 @@ pub struct Reduced {
     pub columns: [usize; ROWS],
 }
 
-// From additions: they are a canon if growing from them changes nothing, and are then lowered.
+// From additions: they are a canon if growing from them changes nothing, and are then lowered. Rules out another verdict on the
+// additions, and additions that are not the simplest canon where they are a canon.
 pub fn from_additions(n: usize, table: &[i16], given: &[u32]) -> Reduced
     requires { ⌜ GivenAdditions (now table) n (now given) ⌝ }
     ensures { λ r. ⌜ ReducedFrom (now (table .entry)) n (now (given .entry)) r ⌝ }
@@ -68,7 +69,8 @@ pub struct Raised {
     pub additions: [u32; ROWS],
 }
 
-// From the columns of a transversal: the rounds of route 3, and where they do not end, growth from zeros tells why.
+// From the columns of a transversal: the rounds of route 3, and where they do not end, growth from zeros tells why. Rules out
+// another verdict on the sum, and additions that are not the simplest canon where it is the greatest.
 pub fn from_columns(n: usize, table: &[i16], columns: &[usize; ROWS]) -> Raised
     requires { ⌜ GivenColumns (now table) n (now columns) ⌝ }
     ensures { λ r. ⌜ RaisedFrom (now (table .entry)) n (now (columns .entry)) r ⌝ }

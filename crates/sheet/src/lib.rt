@@ -5,7 +5,7 @@ ghost use Rattle.sheet.specs.Labels.{LetterOrDigit, Form, Repeated};
 // "8 bytes a label"
 pub const WIDTH: usize = 8;
 
-// Is a byte a letter or a digit?
+// Is a byte a letter or a digit? Rules out bytes beside those three runs.
 fn letter_or_digit(b: u8) -> bool
     ensures { λ r. ⌜ Tells r (LetterOrDigit b) ⌝ }
 {
@@ -27,7 +27,7 @@ fn letter_or_digit(b: u8) -> bool
     b <= 122
 }
 
-// Has a text the form of a label?
+// Has a text the form of a label? Rules out an empty text, one of nine bytes, and a byte passed over.
 pub fn label_stands(l: &[u8]) -> bool
     ensures { λ r. ⌜ Tells r (Form (now (l .entry))) ⌝ }
 {
@@ -47,7 +47,7 @@ pub fn label_stands(l: &[u8]) -> bool
     true
 }
 
-// Are two texts the same?
+// Are two texts the same? Rules out a text taken for a longer one that begins with it.
 fn same_text(a: &[u8], b: &[u8]) -> bool
     ensures { λ r. ⌜ Tells r (now (a .entry) ≡ now (b .entry)) ⌝ }
 {
@@ -64,7 +64,7 @@ fn same_text(a: &[u8], b: &[u8]) -> bool
     true
 }
 
-// Do the 8 bytes of label k stand in an earlier place too?
+// Do the 8 bytes of label k stand in an earlier place too? Rules out an earlier place passed over.
 pub fn repeated(labels: &[u8], k: usize) -> bool
     ensures { λ r. ⌜ Tells r (Repeated (now (labels .entry)) k) ⌝ }
 {

@@ -32,7 +32,7 @@ pub enum Written {
     Refused(Refusal),
 }
 
-// The bytes before the first zero byte.
+// The bytes before the first zero byte. Rules out a later zero byte taken for the first.
 fn label_length(slot: &[u8]) -> usize
     ensures { λ r. ⌜ r ≡ length (labelOf (now (slot .entry))) ⌝ }
 {
@@ -46,7 +46,7 @@ fn label_length(slot: &[u8]) -> usize
     i
 }
 
-// Are these bytes all zero?
+// Are these bytes all zero? Rules out a byte passed over.
 fn all_zero(s: &[u8]) -> bool
     ensures { λ r. ⌜ Tells r ((k : ℕ) → k < length (now (s .entry)) → getD (now (s .entry)) k 0 ≡ 0) ⌝ }
 {
@@ -60,7 +60,7 @@ fn all_zero(s: &[u8]) -> bool
     true
 }
 
-// Do the 8 bytes hold a label, filled up with zero bytes?
+// Do the 8 bytes hold a label, filled up with zero bytes? Rules out bytes behind a zero byte.
 fn slot_stands(slot: &[u8]) -> bool
     ensures { λ r. ⌜ Tells r (SlotStands (now (slot .entry))) ⌝ }
 {
@@ -72,7 +72,7 @@ fn slot_stands(slot: &[u8]) -> bool
     }
 }
 
-// Does a buffer hold n labels, each of its form and unlike the others?
+// Does a buffer hold n labels, each of its form and unlike the others? Rules out two labels alike.
 fn labels_stand(n: usize, labels: &[u8]) -> bool
     requires { ⌜ width * n ≤ length (now labels) ⌝ }
     ensures { λ r. ⌜ Tells r (BufferStands n (now (labels .entry))) ⌝ }
@@ -92,7 +92,7 @@ fn labels_stand(n: usize, labels: &[u8]) -> bool
     true
 }
 
-// The bytes of the label lines.
+// The bytes of the label lines. Rules out every other number: the room is measured by it.
 fn labels_length(n: usize, labels: &[u8]) -> usize
     requires { ⌜ (n ≤ limit) × (width * n ≤ length (now labels)) ⌝ }
     ensures { λ r. ⌜ (r ≡ length (labelLines (labelsOf n (now (labels .entry))))) × (r ≤ 9 * n) ⌝ }
@@ -108,7 +108,7 @@ fn labels_length(n: usize, labels: &[u8]) -> usize
     sum
 }
 
-// A label line in the room.
+// A label line in the room. Rules out a zero byte in the sheet.
 fn put_label(slot: &[u8], out: &mut [u8]) -> usize
     requires { ⌜ length (ended (labelOf (now slot))) ≤ length (now out) ⌝ }
     ensures { λ r. ⌜ Puts (ended (labelOf (now (slot .entry)))) (now (out .entry)) (now (out .exit)) r ⌝ }
@@ -119,7 +119,7 @@ fn put_label(slot: &[u8], out: &mut [u8]) -> usize
     a + 1
 }
 
-// The label lines in the room.
+// The label lines in the room. Rules out a label left out, and a byte changed behind them.
 fn put_labels(n: usize, labels: &[u8], out: &mut [u8]) -> usize
     requires { ⌜ (width * n ≤ length (now labels)) × (length (labelLines (labelsOf n (now labels))) ≤ length (now out)) ⌝ }
     ensures { λ r. ⌜ Puts (labelLines (labelsOf n (now (labels .entry)))) (now (out .entry)) (now (out .exit)) r ⌝ }
@@ -135,7 +135,7 @@ fn put_labels(n: usize, labels: &[u8], out: &mut [u8]) -> usize
     at
 }
 
-// The present places of a table.
+// The present places of a table. Rules out an absent place counted.
 fn present_count(table: &[i16]) -> usize
     ensures { λ r. ⌜ r ≡ presentCount (now (table .entry)) ⌝ }
 {
@@ -150,7 +150,7 @@ fn present_count(table: &[i16]) -> usize
     count
 }
 
-// The bytes of an order.
+// The bytes of an order. Rules out every other number.
 fn value_length(v: i16) -> usize
     requires { ⌜ Order order v ⌝ }
     ensures { λ r. ⌜ (r ≡ length (signed v)) × (r ≤ 4) ⌝ }
@@ -162,7 +162,7 @@ fn value_length(v: i16) -> usize
     digits(size)
 }
 
-// The bytes of the line of place p.
+// The bytes of the line of place p. Rules out every other number.
 fn order_length(n: usize, p: usize, v: i16) -> usize
     requires { ⌜ EntryTested n p v ⌝ }
     ensures { λ r. ⌜ (r ≡ length (orderLine n p v)) × (r ≤ 16) ⌝ }
@@ -173,7 +173,7 @@ fn order_length(n: usize, p: usize, v: i16) -> usize
     digits(p / n + 1) + digits(p % n + 1) + value_length(v) + 3
 }
 
-// The column and the order of a line.
+// The column and the order of a line. Rules out a column counted from 0.
 fn put_order_end(n: usize, p: usize, v: i16, out: &mut [u8]) -> usize
     requires { ⌜ (1 ≤ n) × (n ≤ limit) × (Order order v) × (length ((text (p % n + 1) ++ blank ∷ []) ++ ended (signed v)) ≤ length (now out)) ⌝ }
     ensures { λ r. ⌜ Puts ((text (p % n + 1) ++ blank ∷ []) ++ ended (signed v)) (now (out .entry)) (now (out .exit)) r ⌝ }
@@ -183,7 +183,8 @@ fn put_order_end(n: usize, p: usize, v: i16, out: &mut [u8]) -> usize
     a + b
 }
 
-// The line of place p in the room; none where the place is absent.
+// The line of place p in the room; none where the place is absent. Rules out a row counted from 0, and a line for an absent
+// place.
 fn put_order(n: usize, p: usize, v: i16, out: &mut [u8]) -> usize
     requires { ⌜ (EntryTested n p v) × (length (orderLine n p v) ≤ length (now out)) ⌝ }
     ensures { λ r. ⌜ Puts (orderLine n p v) (now (out .entry)) (now (out .exit)) r ⌝ }
@@ -196,6 +197,7 @@ fn put_order(n: usize, p: usize, v: i16, out: &mut [u8]) -> usize
     a + b
 }
 
+// The bytes of the order lines. Rules out every other number.
 fn orders_length(n: usize, table: &[i16]) -> usize
     requires { ⌜ Tested n (now table) ⌝ }
     ensures { λ r. ⌜ (r ≡ length (orderLines n 0 (now (table .entry)))) × (r ≤ 16384) ⌝ }
@@ -209,6 +211,7 @@ fn orders_length(n: usize, table: &[i16]) -> usize
     sum
 }
 
+// The order lines in the room, row before column. Rules out a present place left out, and lines in another order.
 fn put_orders(n: usize, table: &[i16], out: &mut [u8]) -> usize
     requires { ⌜ (Tested n (now table)) × (length (orderLines n 0 (now table)) ≤ length (now out)) ⌝ }
     ensures { λ r. ⌜ Puts (orderLines n 0 (now (table .entry))) (now (out .entry)) (now (out .exit)) r ⌝ }
@@ -222,7 +225,7 @@ fn put_orders(n: usize, table: &[i16], out: &mut [u8]) -> usize
     at
 }
 
-// A section of labels in the room.
+// A section of labels in the room. Rules out another count than that of the lines.
 fn put_label_section(head: &[u8], n: usize, labels: &[u8], out: &mut [u8]) -> usize
     requires { ⌜ (width * n ≤ length (now labels)) × (length (ended (now head ++ text n) ++ labelLines (labelsOf n (now labels))) ≤ length (now out)) ⌝ }
     ensures { λ r. ⌜ Puts (ended (now (head .entry) ++ text n) ++ labelLines (labelsOf n (now (labels .entry)))) (now (out .entry)) (now (out .exit)) r ⌝ }
@@ -232,7 +235,7 @@ fn put_label_section(head: &[u8], n: usize, labels: &[u8], out: &mut [u8]) -> us
     a + b
 }
 
-// The section of orders in the room.
+// The section of orders in the room. Rules out the same.
 fn put_order_section(n: usize, table: &[i16], out: &mut [u8]) -> usize
     requires { ⌜ (Tested n (now table)) × (length (orderSection n (now table)) ≤ length (now out)) ⌝ }
     ensures { λ r. ⌜ Puts (orderSection n (now (table .entry))) (now (out .entry)) (now (out .exit)) r ⌝ }
@@ -243,6 +246,7 @@ fn put_order_section(n: usize, table: &[i16], out: &mut [u8]) -> usize
     a + b
 }
 
+// The bytes of the sheet. Rules out every other number: refusal 12 is told by it.
 fn sheet_length(n: usize, table: &[i16], rows: &[u8], cols: &[u8]) -> usize
     requires { ⌜ (Tested n (now table)) × (width * n ≤ length (now rows)) × (width * n ≤ length (now cols)) ⌝ }
     ensures { λ r. ⌜ r ≡ length (sheetText n (now (table .entry)) (now (rows .entry)) (now (cols .entry))) ⌝ }
@@ -254,7 +258,7 @@ fn sheet_length(n: usize, table: &[i16], rows: &[u8], cols: &[u8]) -> usize
     a + b + c
 }
 
-// The sections from `cols` on in the room.
+// The sections from `cols` on in the room. Rules out labels of the rows under `cols`.
 fn put_rest(n: usize, table: &[i16], cols: &[u8], out: &mut [u8]) -> usize
     requires { ⌜ (Tested n (now table)) × (width * n ≤ length (now cols)) × (length (restText n (now table) (now cols)) ≤ length (now out)) ⌝ }
     ensures { λ r. ⌜ Puts (restText n (now (table .entry)) (now (cols .entry))) (now (out .entry)) (now (out .exit)) r ⌝ }
@@ -264,7 +268,8 @@ fn put_rest(n: usize, table: &[i16], cols: &[u8], out: &mut [u8]) -> usize
     a + b
 }
 
-// The sheet in the room: each section in the room that the sections before it left free.
+// The sheet in the room: each section in the room that the sections before it left free. Rules out every other text, and a byte
+// changed behind it.
 fn put_sheet(n: usize, table: &[i16], rows: &[u8], cols: &[u8], out: &mut [u8]) -> usize
     requires { ⌜ (Tested n (now table)) × (width * n ≤ length (now rows)) × (width * n ≤ length (now cols)) × (length (sheetText n (now table) (now rows) (now cols)) ≤ length (now out)) ⌝ }
     ensures { λ r. ⌜ Puts (sheetText n (now (table .entry)) (now (rows .entry)) (now (cols .entry))) (now (out .entry)) (now (out .exit)) r ⌝ }

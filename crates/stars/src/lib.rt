@@ -5,7 +5,7 @@ ghost use Rattle.theory.specs.Table.{entry};
 ghost use Rattle.theory.specs.Canon.{Maximum, Stars};
 ghost use Rattle.orders.specs.Tested.{Tells};
 ghost use Rattle.stars.specs.Given.{Given, Ready};
-ghost use Rattle.stars.specs.Search.{Least, Columns, Joined, FoundIn, Scanned, Searched};
+ghost use Rattle.stars.specs.Search.{Least, Columns, ways, Joined, FoundIn, Scanned, Unsearched, Searched};
 ghost use Rattle.stars.specs.Shift.{MarkedIn, Swapped, Settled, Later};
 use orders::ROWS;
 
@@ -13,15 +13,6 @@ use orders::ROWS;
 pub struct Marking {
     pub rows: [usize; ROWS],
     pub columns: [usize; ROWS],
-}
-
-// The rows from which the column of one row can be reached by column maxima, as they were found: the row itself is queue[0], row
-// queue[p] has step p + 1 and goes on to the column of row next, which was found before it. A row that was not found has step 0.
-pub struct Ways {
-    pub next: [usize; ROWS],
-    pub step: [usize; ROWS],
-    pub queue: [usize; ROWS],
-    pub count: usize,
 }
 
 // Is the place of row i and column j a column maximum? It is when it is present and the raised order is the column's head. The
@@ -69,29 +60,34 @@ fn least(
     own
 }
 
-// Row k joins, with a step to row m.
-fn joined(ways: Ways, k: usize, m: usize) -> Ways
-    requires { ⌜ (k < rows) × (ways .count < rows) ⌝ }
-    ensures { λ r. ⌜ Joined ways k m r ⌝ }
+// The rows from which the column of one row can be reached by column maxima are held as they are found: row queue[p] has step p + 1
+// and goes on to the column of row next, which was found before it. The row itself is the first; a row that is not found has step 0.
+
+// Row k joins, with a step to row m: the count of the rows found.
+fn join(
+    k: usize,
+    m: usize,
+    count: usize,
+    next: &mut [usize; ROWS],
+    step: &mut [usize; ROWS],
+    queue: &mut [usize; ROWS],
+) -> usize
+    requires { ⌜ (k < rows) × (count < rows) ⌝ }
+    ensures { λ r. ⌜ Joined
+        (ways (now (next .entry)) (now (step .entry)) (now (queue .entry)) count)
+        k
+        m
+        (ways (now (next .exit)) (now (step .exit)) (now (queue .exit)) r) ⌝ }
 {
-    let mut next = ways.next;
-    let mut step = ways.step;
-    let mut queue = ways.queue;
-    let count = ways.count;
     next[k] = m;
     step[k] = count + 1;
     queue[count] = k;
-    Ways {
-        next: next,
-        step: step,
-        queue: queue,
-        count: count + 1,
-    }
+    count + 1
 }
 
-// The rows after i that have a maximum in the column of row m join. The contract rules out a row left out, a row before i, and a row
-// whose way does not lead on to rows found before it.
-fn scanned(
+// The rows after i that have a maximum in the column of row m join: the count of the rows found. The contract rules out a row left
+// out, a row before i, and a row whose way does not lead on to rows found before it.
+fn scan(
     table: &[i16],
     n: usize,
     additions: &[u32; ROWS],
@@ -99,18 +95,30 @@ fn scanned(
     columns: &[usize; ROWS],
     i: usize,
     m: usize,
-    ways: Ways,
-) -> Ways
-    requires { ⌜ Given (now table) n (now additions) (now heads) × Columns n i (now columns) × (m < n) × (0 < nums (ways .step) m) × FoundIn (now table) n (now additions) i (now columns) ways ⌝ }
-    ensures { λ r. ⌜ Scanned (now (table .entry)) n (now (additions .entry)) i (now (columns .entry)) m n ways r ⌝ }
+    count: usize,
+    next: &mut [usize; ROWS],
+    step: &mut [usize; ROWS],
+    queue: &mut [usize; ROWS],
+) -> usize
+    requires { ⌜ Given (now table) n (now additions) (now heads) × Columns n i (now columns) × (m < n) × (0 < nums (now step) m) × FoundIn (now table) n (now additions) i (now columns) (ways (now next) (now step) (now queue) count) ⌝ }
+    ensures { λ r. ⌜ Scanned
+        (now (table .entry))
+        n
+        (now (additions .entry))
+        i
+        (now (columns .entry))
+        m
+        n
+        (ways (now (next .entry)) (now (step .entry)) (now (queue .entry)) count)
+        (ways (now (next .exit)) (now (step .exit)) (now (queue .exit)) r) ⌝ }
 {
     let column = columns[m];
-    let mut found = ways;
+    let mut found = count;
     let mut k = i + 1;
     while k < n {
-        if found.step[k] == 0 {
+        if step[k] == 0 {
             if tight(table, n, additions, heads, k, column) {
-                found = joined(found, k, m);
+                found = join(k, m, found, &mut *next, &mut *step, &mut *queue);
             }
         }
         k += 1;
@@ -120,31 +128,39 @@ fn scanned(
 
 // The rows from i on from which the column of row i can be reached: the columns of the rows found are scanned one after the other.
 // The contract rules out a search that stops while a column of a row found is not scanned.
-fn searched(
+fn find_ways(
     table: &[i16],
     n: usize,
     additions: &[u32; ROWS],
     heads: &[i32; ROWS],
     columns: &[usize; ROWS],
     i: usize,
-) -> Ways
-    requires { ⌜ Given (now table) n (now additions) (now heads) × Columns n i (now columns) ⌝ }
-    ensures { λ r. ⌜ Searched (now (table .entry)) n (now (additions .entry)) i (now (columns .entry)) r ⌝ }
+    next: &mut [usize; ROWS],
+    step: &mut [usize; ROWS],
+)
+    requires { ⌜ Given (now table) n (now additions) (now heads) × Columns n i (now columns) × Unsearched n (now next) (now step) ⌝ }
+    ensures { λ r. ⌜ Searched (now (table .entry)) n (now (additions .entry)) i (now (columns .entry)) (now (next .exit)) (now (step .exit)) ⌝ }
 {
-    let none = Ways {
-        next: [0usize; ROWS],
-        step: [0usize; ROWS],
-        queue: [0usize; ROWS],
-        count: 0,
-    };
-    let mut ways = joined(none, i, i);
+    let mut queue = [0usize; ROWS];
+    let mut count = join(i, i, 0, &mut *next, &mut *step, &mut queue);
     let mut at = 0;
-    while at < ways.count {
-        let m = ways.queue[at];
-        ways = scanned(table, n, additions, heads, columns, i, m, ways);
+    while at < count {
+        let m = queue[at];
+        count = scan(
+            table,
+            n,
+            additions,
+            heads,
+            columns,
+            i,
+            m,
+            count,
+            &mut *next,
+            &mut *step,
+            &mut queue,
+        );
         at += 1;
     }
-    ways
 }
 
 // Rows k and m exchange their columns.
@@ -182,16 +198,26 @@ fn moved(
 {
     let rows = marks.rows;
     let columns = marks.columns;
-    let ways = searched(table, n, additions, heads, &columns, i);
-    let step = ways.step;
+    let mut next = [0usize; ROWS];
+    let mut step = [0usize; ROWS];
+    find_ways(
+        table,
+        n,
+        additions,
+        heads,
+        &columns,
+        i,
+        &mut next,
+        &mut step,
+    );
     let j = least(table, n, additions, heads, &rows, &step, i, columns[i]);
     let mut shifted = marks;
     let mut k = i;
     let mut m = rows[j];
-    while m != i {
+    while step[m] != 1 {
         shifted = swapped(shifted, k, m);
         k = m;
-        m = ways.next[m];
+        m = next[m];
     }
     shifted
 }

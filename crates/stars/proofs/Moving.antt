@@ -2,7 +2,7 @@
 use mathlib.Core.Path.{_≡_, refl, _∙_, ap}
 use mathlib.Core.Logic.{_≢_}
 use mathlib.Core.List.{List}
-use Prim.Native.Nat.{ℕ, _-_, _≤_, _<_}
+use Prim.Native.Nat.{ℕ, _≤_, _<_}
 use native.Mathlib.Decide.{decLt}
 use native.Mathlib.Omega.{arith}
 use lib.IntN.{ℤ}
@@ -13,8 +13,7 @@ use Rattle.theory.specs.Table.{entry}
 use Rattle.theory.specs.Canon.{Maximum}
 use Rattle.theory.proofs.Exchange.{exchange}
 use Rattle.stars.specs.Search.{Least, Unsearched, Searched}
-use Rattle.stars.specs.Shift.{MarkedIn, Swapped, Settled, Later}
-use Rattle.stars.specs.declared.Marking.{Marking}
+use Rattle.stars.specs.Shift.{Marking, MarkedIn, Swapped, Settled, Later}
 use Rattle.stars.proofs.Joining.{root-found, root-alone}
 use Rattle.stars.proofs.Swapping.{swap-stores, swap-long-rows, swap-long-columns}
 use Rattle.stars.proofs.Shifting.{Shifting, of-marks, not-yet, shift-start, shift-less, shift-next, shift-maxima, shift-takes}

@@ -6,14 +6,8 @@ ghost use Rattle.theory.specs.Canon.{Maximum, Stars};
 ghost use Rattle.orders.specs.Tested.{Tells};
 ghost use Rattle.stars.specs.Given.{Given, Ready};
 ghost use Rattle.stars.specs.Search.{Least, Columns, ways, Joined, FoundIn, Scanned, Unsearched, Searched};
-ghost use Rattle.stars.specs.Shift.{MarkedIn, Swapped, Settled, Later};
+ghost use Rattle.stars.specs.Shift.{marking, MarkedIn, Swappable, Swapped, Settled, Later};
 use orders::ROWS;
-
-// The marks of a complete transversal: the row of each column and the column of each row.
-pub struct Marking {
-    pub rows: [usize; ROWS],
-    pub columns: [usize; ROWS],
-}
 
 // Is the place of row i and column j a column maximum? It is when it is present and the raised order is the column's head. The
 // contract rules out an absent place, another row's addition and a test that always says one thing.
@@ -164,40 +158,39 @@ fn find_ways(
 }
 
 // Rows k and m exchange their columns.
-fn swapped(marks: Marking, k: usize, m: usize) -> Marking
-    requires { ⌜ (k < rows) × (m < rows) × (nums (marks .columns) k < rows) × (nums (marks .columns) m < rows) ⌝ }
-    ensures { λ r. ⌜ Swapped marks k m r ⌝ }
+fn swap(k: usize, m: usize, rows: &mut [usize; ROWS], columns: &mut [usize; ROWS])
+    requires { ⌜ Swappable (now columns) k m ⌝ }
+    ensures { λ r. ⌜ Swapped (marking (now (rows .entry)) (now (columns .entry))) k m (marking (now (rows .exit)) (now (columns .exit))) ⌝ }
 {
-    let mut rows = marks.rows;
-    let mut columns = marks.columns;
     let left = columns[k];
     let taken = columns[m];
     columns[k] = taken;
     columns[m] = left;
     rows[taken] = k;
     rows[left] = m;
-    Marking {
-        rows: rows,
-        columns: columns,
-    }
 }
 
 // Row i takes the first column that the rows before it leave to it, and the marks are shifted along the way from there to the column
 // that row i had: at each turn row k has that column, and exchanges it for the column of the next row m. The contract rules out
 // moving a row before i, and leaving row i at a column when a transversal of maxima with the same rows before i has an earlier one.
-fn moved(
+fn shift(
     table: &[i16],
     n: usize,
     additions: &[u32; ROWS],
     heads: &[i32; ROWS],
-    marks: Marking,
     i: usize,
-) -> Marking
-    requires { ⌜ Given (now table) n (now additions) (now heads) × MarkedIn (now table) n (now additions) marks × (i < n) ⌝ }
-    ensures { λ r. ⌜ Settled (now (table .entry)) n (now (additions .entry)) marks i r ⌝ }
+    rows: &mut [usize; ROWS],
+    columns: &mut [usize; ROWS],
+)
+    requires { ⌜ Given (now table) n (now additions) (now heads) × MarkedIn (now table) n (now additions) (marking (now rows) (now columns)) × (i < n) ⌝ }
+    ensures { λ r. ⌜ Settled
+        (now (table .entry))
+        n
+        (now (additions .entry))
+        (marking (now (rows .entry)) (now (columns .entry)))
+        i
+        (marking (now (rows .exit)) (now (columns .exit))) ⌝ }
 {
-    let rows = marks.rows;
-    let columns = marks.columns;
     let mut next = [0usize; ROWS];
     let mut step = [0usize; ROWS];
     find_ways(
@@ -205,44 +198,48 @@ fn moved(
         n,
         additions,
         heads,
-        &columns,
+        &*columns,
         i,
         &mut next,
         &mut step,
     );
-    let j = least(table, n, additions, heads, &rows, &step, i, columns[i]);
-    let mut shifted = marks;
+    let j = least(table, n, additions, heads, &*rows, &step, i, columns[i]);
     let mut k = i;
     let mut m = rows[j];
     while step[m] != 1 {
-        shifted = swapped(shifted, k, m);
+        swap(k, m, &mut *rows, &mut *columns);
         k = m;
         m = next[m];
     }
-    shifted
 }
 
-// The marks with row i at the first column that the rows before it leave to it. Most rows have it already: no earlier column in
-// which row i has a maximum belongs to a later row, and nothing is searched.
-fn settled(
+// Row i comes to the first column that the rows before it leave to it. Most rows are there already: no earlier column in which row i
+// has a maximum belongs to a later row, and nothing is searched.
+fn settle(
     table: &[i16],
     n: usize,
     additions: &[u32; ROWS],
     heads: &[i32; ROWS],
-    marks: Marking,
     later: &[usize; ROWS],
     i: usize,
-) -> Marking
-    requires { ⌜ Given (now table) n (now additions) (now heads) × MarkedIn (now table) n (now additions) marks × Later n i (now later) × (i < n) ⌝ }
-    ensures { λ r. ⌜ Settled (now (table .entry)) n (now (additions .entry)) marks i r ⌝ }
+    rows: &mut [usize; ROWS],
+    columns: &mut [usize; ROWS],
+)
+    requires { ⌜ Given (now table) n (now additions) (now heads) × MarkedIn (now table) n (now additions) (marking (now rows) (now columns)) × Later n i (now later) × (i < n) ⌝ }
+    ensures { λ r. ⌜ Settled
+        (now (table .entry))
+        n
+        (now (additions .entry))
+        (marking (now (rows .entry)) (now (columns .entry)))
+        i
+        (marking (now (rows .exit)) (now (columns .exit))) ⌝ }
 {
-    let rows = marks.rows;
-    let own = marks.columns[i];
-    let j = least(table, n, additions, heads, &rows, later, i, own);
+    let own = columns[i];
+    let j = least(table, n, additions, heads, &*rows, later, i, own);
     if j == own {
-        return marks;
+        return;
     }
-    moved(table, n, additions, heads, marks, i)
+    shift(table, n, additions, heads, i, &mut *rows, &mut *columns);
 }
 
 // The columns of the first complete transversal of column maxima, from the marks of any: one row after the other comes to the first
@@ -260,16 +257,23 @@ pub fn first_stars(
     requires { ⌜ Ready (now table) n (now additions) (now heads) «row_of» «column_of» ⌝ }
     ensures { λ r. ⌜ Stars n (entry (now (table .entry)) n) (nums (now (additions .entry))) (nums r) ⌝ }
 {
-    let mut marks = Marking {
-        rows: row_of,
-        columns: column_of,
-    };
+    let mut rows = row_of;
+    let mut columns = column_of;
     let mut later = [1usize; ROWS];
     let mut i = 0;
     while i < n {
-        marks = settled(table, n, additions, heads, marks, &later, i);
+        settle(
+            table,
+            n,
+            additions,
+            heads,
+            &later,
+            i,
+            &mut rows,
+            &mut columns,
+        );
         later[i] = 0;
         i += 1;
     }
-    marks.columns
+    columns
 }

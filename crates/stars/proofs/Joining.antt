@@ -27,6 +27,16 @@ module _ {n : ℕ} {a : ℕ → ℕ → ℤ} {l : ℕ → ℕ} {i : ℕ} {σ nex
   queue-apart : (p q : ℕ) → p < count → q < count → queue p ≡ queue q → p ≡ q
   queue-apart p q hp hq e = omega (arith, w .numbered p hp, w .numbered q hq, ap step e)
 
+  -- row i is found, and it alone has step 1: every other row found goes on to one with a smaller step
+  pub root-found : 0 < step i
+  root-found = omega (arith, w .root)
+
+  pub root-alone : (k : ℕ) → k < n → step k ≡ 1 → k ≡ i
+  root-alone k hk first = elim (ℕ-discrete k i) [
+    | yes e ↦ e
+    | no ne ↦ absurd (omega (arith, w .found k hk (omega arith) ne, w .nearer k hk (omega arith) ne))
+  ]
+
   -- a row that is not found leaves room in the queue: by the pigeonhole a queue of n rows would have it
   pub queue-room : (k : ℕ) → k < n → step k ≡ 0 → count < n
   queue-room k hk none = go (decLt count n)
@@ -80,7 +90,7 @@ module _ {n : ℕ} {a : ℕ → ℕ → ℤ} {l : ℕ → ℕ} {i : ℕ} {σ nex
     -- steps and their next rows, and m's step is below k's, which is the greatest.
     pub found-more : Found n a l i σ next′ step′ queue′ (count + 1)
     found-more = record {
-      root = rw (kept i (w .root)) (w .root);
+      root = kept i (omega (arith, w .root)) ∙ w .root;
       row = place (λ p x. x < n) hk (w .row);
       late = place (λ p x. i ≤ x) (omega arith) (w .late);
       numbered = place (λ p x. step′ x ≡ p + 1) (ps .here) (λ p h. kept (queue p) (omega (arith, w .numbered p h)) ∙ w .numbered p h);
@@ -137,7 +147,7 @@ grown-none n step queue count = record { more = omega arith; same = λ p h. refl
 pub found-first : (n : ℕ) (a : ℕ → ℕ → ℤ) (l : ℕ → ℕ) (i : ℕ) (σ next step queue step₀ : ℕ → ℕ) → i < n
     → ((x : ℕ) → x < n → step₀ x ≡ 0) → Put step₀ step i 1 → queue 0 ≡ i → Found n a l i σ next step queue 1
 found-first n a l i σ next step queue step₀ hi zero ps first = record {
-  root = omega (arith, ps .here);
+  root = ps .here;
   row = λ p h. rw (at p h) hi;
   late = λ p h. rw (at p h) (omega arith);
   numbered = λ p h. rw (at p h) (omega (arith, ps .here));

@@ -1,29 +1,28 @@
 -- A row comes to its first column, over the lists of the code. Assumes nothing.
-use mathlib.Core.Path.{_≡_, refl, _∙_}
+use mathlib.Core.Path.{_≡_, refl, _∙_, ap}
 use mathlib.Core.Logic.{_≢_}
 use mathlib.Core.List.{List}
-use Prim.Native.Nat.{ℕ, _-_, _≤_, _<_}
+use Prim.Native.Nat.{ℕ, _≤_, _<_}
 use native.Mathlib.Decide.{decLt}
 use native.Mathlib.Omega.{arith}
 use lib.IntN.{ℤ}
-use lib.ListN.{length}
+use lib.ListN.{length, replicate, getD-replicate}
 use Rattle.theory.specs.Limits.{rows}
 use Rattle.theory.specs.Lists.{nums}
 use Rattle.theory.specs.Table.{entry}
 use Rattle.theory.specs.Canon.{Maximum}
 use Rattle.theory.proofs.Exchange.{exchange}
-use Rattle.stars.specs.Search.{Least, Searched}
-use Rattle.stars.specs.Shift.{MarkedIn, Swapped, Settled, Later}
-use Rattle.stars.specs.declared.Marking.{Marking}
-use Rattle.stars.specs.declared.Ways.{Ways}
+use Rattle.stars.specs.Search.{Least, Unsearched, Searched}
+use Rattle.stars.specs.Shift.{Marking, MarkedIn, Swapped, Settled, Later}
+use Rattle.stars.proofs.Joining.{root-found, root-alone}
 use Rattle.stars.proofs.Swapping.{swap-stores, swap-long-rows, swap-long-columns}
 use Rattle.stars.proofs.Shifting.{Shifting, of-marks, not-yet, shift-start, shift-less, shift-next, shift-maxima, shift-takes}
 
 -- the shift of the marks w₀ along the ways has come to row k and the marks w
-pub record ShiftingIn (t : List ℤ) (n : ℕ) (l : List ℕ) (i j : ℕ) (w₀ : Marking) (ways : Ways) (w : Marking) (k m : ℕ) : Type 0 where
+pub record ShiftingIn (t : List ℤ) (n : ℕ) (l : List ℕ) (i j : ℕ) (w₀ : Marking) (step : List ℕ) (w : Marking) (k m : ℕ) : Type 0 where
   pub long-rows : length (w .rows) ≡ rows
   pub long-columns : length (w .columns) ≡ rows
-  pub shift : Shifting n (entry t n) (nums l) i j (nums (w₀ .columns)) (nums (ways .step)) (nums (w .rows)) (nums (w .columns)) k m
+  pub shift : Shifting n (entry t n) (nums l) i j (nums (w₀ .columns)) (nums step) (nums (w .rows)) (nums (w .columns)) k m
 
 -- ---- a row that has no maximum before its own column in the column of a later row is settled as it stands
 pub settled-so : {t : List ℤ} {n : ℕ} {l : List ℕ} {w : Marking} {i j : ℕ} {later : List ℕ} → MarkedIn t n l w → Later n i later → i < n
@@ -39,9 +38,13 @@ settled-so {t} {n} {l} {w} {i} {j} {later} marked late hi b own = record {
 }
 
 -- ---- otherwise the ways are searched and the marks shifted
-module _ {t : List ℤ} {n : ℕ} {l : List ℕ} {i j : ℕ} {w₀ : Marking} {ways : Ways} (small : n ≤ rows) (marked : MarkedIn t n l w₀) (hi : i < n)
-    (s : Searched t n l i (w₀ .columns) ways)
-    (b : Least n (entry t n) (nums l) (nums (w₀ .rows)) (nums (ways .step)) i (nums (w₀ .columns) i) j) where
+-- arrays of zeros: no row is found yet
+pub unsearched : {n : ℕ} → n ≤ rows → Unsearched n (replicate rows 0) (replicate rows 0)
+unsearched small = record { long-next = refl; long-step = refl; none = λ x h. getD-replicate rows x 0 0 (omega arith) }
+
+module _ {t : List ℤ} {n : ℕ} {l : List ℕ} {i j : ℕ} {w₀ : Marking} {next step : List ℕ} (small : n ≤ rows) (marked : MarkedIn t n l w₀) (hi : i < n)
+    (s : Searched t n l i (w₀ .columns) next step)
+    (b : Least n (entry t n) (nums l) (nums (w₀ .rows)) (nums step) i (nums (w₀ .columns) i) j) where
   own : nums (w₀ .columns) i < n
   own = marked .marked .marks .column i hi
 
@@ -56,34 +59,39 @@ module _ {t : List ℤ} {n : ℕ} {l : List ℕ} {i j : ℕ} {w₀ : Marking} {w
       go (yes h) = less h
       go (no h) = let e : j ≡ nums (w₀ .columns) i = omega (arith, b .within) in rw e same
 
-  pub move-start : ShiftingIn t n l i j w₀ ways w₀ i (nums (w₀ .rows) j)
+  pub move-start : ShiftingIn t n l i j w₀ step w₀ i (nums (w₀ .rows) j)
   move-start = record {
     long-rows = marked .long-rows;
     long-columns = marked .long-columns;
-    shift = shift-start (marked .marked .marks) (s .ways .ways) hi (marked .marked .of-maxima) chosen-below
+    shift = shift-start (marked .marked .marks) (s .found .ways) hi (marked .marked .of-maxima) chosen-below
         (chosen (λ c. Maximum n (entry t n) (nums l) i c) (b .maximum) (marked .marked .of-maxima .maximum i hi))
-        (chosen (λ c. 0 < nums (ways .step) (nums (w₀ .rows) c)) (b .eligible-row) (rw (marked .marked .marks .back i hi) (s .ways .ways .root)));
+        (chosen (λ c. 0 < nums step (nums (w₀ .rows) c)) (b .eligible-row) (rw (marked .marked .marks .back i hi) (root-found (s .found .ways))));
   }
 
-  module _ {w : Marking} {k m : ℕ} (p : ShiftingIn t n l i j w₀ ways w k m) where
-    pub move-less : m ≢ i → nums (ways .step) (nums (ways .next) m) < nums (ways .step) m
-    move-less on = shift-less (marked .marked .marks) (s .ways .ways) hi (p .shift) on
+  module _ {w : Marking} {k m : ℕ} (p : ShiftingIn t n l i j w₀ step w k m) where
+    -- the way has not come to row i, which has step 1
+    under-way : nums step m ≢ 1 → m ≢ i
+    under-way on e = on (ap (nums step) e ∙ s .found .ways .root)
 
-    pub move-next : {r : Marking} → m ≢ i → Swapped w k m r → ShiftingIn t n l i j w₀ ways r m (nums (ways .next) m)
+    pub move-less : nums step m ≢ 1 → nums step (nums next m) < nums step m
+    move-less on = shift-less (marked .marked .marks) (s .found .ways) hi (p .shift) (under-way on)
+
+    pub move-next : {r : Marking} → nums step m ≢ 1 → Swapped w k m r → ShiftingIn t n l i j w₀ step r m (nums next m)
     move-next on is =
         let f = p .shift in
-        let apart = not-yet (marked .marked .marks) (s .ways .ways) hi f on in
+        let apart = not-yet (marked .marked .marks) (s .found .ways) hi f (under-way on) in
         record {
           long-rows = swap-long-rows is (f .marks) small (p .long-rows) (p .long-columns) (f .row) (f .goal) apart;
           long-columns = swap-long-columns is (f .marks) small (p .long-rows) (p .long-columns) (f .row) (f .goal) apart;
-          shift = shift-next (marked .marked .marks) (s .ways .ways) hi f on
+          shift = shift-next (marked .marked .marks) (s .found .ways) hi f (under-way on)
               (swap-stores is (f .marks) small (p .long-rows) (p .long-columns) (f .row) (f .goal) apart);
         }
 
-    pub move-end : m ≡ i → Settled t n l w₀ i w
-    move-end end =
-        let max = shift-maxima (marked .marked .marks) (s .ways .ways) hi (p .shift) end in
-        let takes = shift-takes (marked .marked .marks) (s .ways .ways) hi (p .shift) end in
+    pub move-end : nums step m ≡ 1 → Settled t n l w₀ i w
+    move-end first =
+        let end = root-alone (s .found .ways) m (p .shift .goal) first in
+        let max = shift-maxima (marked .marked .marks) (s .found .ways) hi (p .shift) end in
+        let takes = shift-takes (marked .marked .marks) (s .found .ways) hi (p .shift) end in
         record {
           marked = record {
             long-rows = p .long-rows;
@@ -93,7 +101,7 @@ module _ {t : List ℤ} {n : ℕ} {l : List ℕ} {i j : ℕ} {w₀ : Marking} {w
           before = p .shift .before;
           first = λ τ of same. rw takes (
               exchange n (entry t n) (nums l) (nums (w₀ .columns)) (nums (w₀ .rows)) (marked .marked .marks .row) (marked .marked .marks .forth)
-              (λ x. 0 < nums (ways .step) x) (λ x. decLt 0 (nums (ways .step) x)) i j hi (s .ways .ways .root)
+              (λ x. 0 < nums step x) (λ x. decLt 0 (nums step x)) i j hi (root-found (s .found .ways))
               (λ x h hx c hc top known. s .all (nums (w₀ .rows) c) (marked .marked .marks .row c hc) known x h hx (rw (marked .marked .marks .forth c hc) top))
               (λ c h hc top known. b .none c h top known) τ of (λ x h. same x h ∙ p .shift .before x h));
         }

@@ -11,8 +11,7 @@ use Rattle.theory.specs.Limits.{rows}
 use Rattle.theory.specs.Lists.{nums}
 use Rattle.theory.specs.Table.{entry}
 use Rattle.theory.specs.Canon.{Stars}
-use Rattle.stars.specs.Shift.{MarkedIn, FirstAt, Settled, Later}
-use Rattle.stars.specs.declared.Marking.{Marking}
+use Rattle.stars.specs.Shift.{Marking, MarkedIn, FirstAt, Settled, Later}
 
 -- the rows before i are at their first columns
 pub record Progress (t : List ℤ) (n : ℕ) (l : List ℕ) (w : Marking) (later : List ℕ) (i : ℕ) : Type 0 where

@@ -10,8 +10,7 @@ use Rattle.theory.specs.Limits.{rows}
 use Rattle.theory.specs.Lists.{nums}
 use Rattle.theory.specs.Table.{entry}
 use Rattle.theory.specs.Canon.{Maximum}
-use Rattle.stars.specs.Search.{Long, Joined, ScannedTo, FoundIn, Scanned, Searched}
-use Rattle.stars.specs.declared.Ways.{Ways}
+use Rattle.stars.specs.Search.{Ways, Long, Joined, ScannedTo, FoundIn, Scanned, Searched}
 use Rattle.stars.proofs.Joining.{Put, put, queue-room, found-more, grown-more, scanned-found, scanned-next, grown-none, found-first}
 
 -- a store in an array, as an equation gives it
@@ -95,8 +94,10 @@ module _ {t : List ℤ} {n : ℕ} {l : List ℕ} {i : ℕ} {columns : List ℕ} 
     pub search-row : at < w .count → (nums (w .queue) at < n) × (0 < nums (w .step) (nums (w .queue) at))
     search-row h = (s .ways .ways .row at h, omega (arith, s .ways .ways .numbered at h))
 
-    pub search-end : w .count ≤ at → Searched t n l i columns w
+    pub search-end : w .count ≤ at → Searched t n l i columns (w .next) (w .step)
     search-end h = record {
-      ways = s .ways;
+      queue = w .queue;
+      count = w .count;
+      found = s .ways;
       all = λ m hm known. rw (s .ways .ways .queued m hm known) at (s .scanned (nums (w .step) m - 1) (omega (arith, s .ways .ways .counted m hm known)));
     }

@@ -10,8 +10,7 @@ use lib.Seq.{getD-set-same, getD-set-other}
 use Rattle.theory.specs.Limits.{rows}
 use Rattle.theory.specs.Lists.{nums}
 use Rattle.orders.specs.Places.{Marks}
-use Rattle.stars.specs.Shift.{Swapped}
-use Rattle.stars.specs.declared.Marking.{Marking}
+use Rattle.stars.specs.Shift.{Marking, Swapped}
 
 -- rows k and m have the columns of each other, and all else is as it was
 pub record Swap (ρ σ ρ′ σ′ : ℕ → ℕ) (k m : ℕ) : Type 0 where

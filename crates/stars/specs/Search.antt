@@ -9,7 +9,6 @@ use Rattle.theory.specs.Limits.{rows}
 use Rattle.theory.specs.Lists.{nums}
 use Rattle.theory.specs.Table.{entry}
 use Rattle.theory.specs.Canon.{Maximum}
-use Rattle.stars.specs.declared.Ways.{Ways}
 
 module _ (n : ℕ) (a : ℕ → ℕ → ℤ) (l : ℕ → ℕ) where
   -- r is the least column before `own` in which row i has a maximum and whose marked row is eligible, or else `own`
@@ -19,10 +18,10 @@ module _ (n : ℕ) (a : ℕ → ℕ → ℤ) (l : ℕ → ℕ) where
     pub eligible-row : r < own → 0 < eligible (row-of r)
     pub none : (j : ℕ) → j < r → Maximum n a l i j → 0 < eligible (row-of j) → ⊥
 
-  -- The rows found so far, row i among them, stand in the queue in the order of their steps; each but row i has a maximum in the
+  -- The rows found so far, row i the first of them, stand in the queue in the order of their steps; each but row i has a maximum in the
   -- column of the row `next` that it goes on to, which was found before it.
   pub record Found (i : ℕ) (column-of next step queue : ℕ → ℕ) (count : ℕ) : Type 0 where
-    pub root : 0 < step i
+    pub root : step i ≡ 1
     pub row : (p : ℕ) → p < count → queue p < n
     pub late : (p : ℕ) → p < count → i ≤ queue p
     pub numbered : (p : ℕ) → p < count → step (queue p) ≡ p + 1
@@ -49,6 +48,16 @@ pub record Columns (n i : ℕ) (column-of : List ℕ) : Type 0 where
   pub row : i < n
   pub column : (k : ℕ) → k < n → nums column-of k < n
 
+-- the ways found, as the arrays of the code hold them
+pub record Ways : Type 0 where
+  pub next : List ℕ
+  pub step : List ℕ
+  pub queue : List ℕ
+  pub count : ℕ
+
+abbrev pub ways : List ℕ → List ℕ → List ℕ → ℕ → Ways
+ways next step queue count = record { next = next; step = step; queue = queue; count = count }
+
 pub record Long (w : Ways) : Type 0 where
   pub next : length (w .next) ≡ rows
   pub step : length (w .step) ≡ rows
@@ -71,7 +80,15 @@ pub record Scanned (t : List ℤ) (n : ℕ) (l : List ℕ) (i : ℕ) (column-of 
   pub grown : Grown n (nums (w .step)) (nums (w .queue)) (w .count) (nums (r .step)) (nums (r .queue)) (r .count)
   pub all : ScannedTo n (entry t n) (nums l) i (nums column-of m) (nums (r .step)) k
 
--- every row after i from which the column of row i can be reached is found
-pub record Searched (t : List ℤ) (n : ℕ) (l : List ℕ) (i : ℕ) (column-of : List ℕ) (w : Ways) : Type 0 where
-  pub ways : FoundIn t n l i column-of w
-  pub all : (m : ℕ) → m < n → 0 < nums (w .step) m → ScannedTo n (entry t n) (nums l) i (nums column-of m) (nums (w .step)) n
+-- no row is found yet
+pub record Unsearched (n : ℕ) (next step : List ℕ) : Type 0 where
+  pub long-next : length next ≡ rows
+  pub long-step : length step ≡ rows
+  pub none : (k : ℕ) → k < n → nums step k ≡ 0
+
+-- every row after i from which the column of row i can be reached is found, in some order
+pub record Searched (t : List ℤ) (n : ℕ) (l : List ℕ) (i : ℕ) (column-of next step : List ℕ) : Type 0 where
+  pub queue : List ℕ
+  pub count : ℕ
+  pub found : FoundIn t n l i column-of (ways next step queue count)
+  pub all : (m : ℕ) → m < n → 0 < nums step m → ScannedTo n (entry t n) (nums l) i (nums column-of m) (nums step) n

@@ -9,13 +9,27 @@ use Rattle.theory.specs.Lists.{nums}
 use Rattle.theory.specs.Table.{entry}
 use Rattle.theory.specs.Canon.{OfMaxima}
 use Rattle.stars.specs.Given.{Marked}
-use Rattle.stars.specs.declared.Marking.{Marking}
 
--- the marks of a complete transversal of column maxima, as the code holds them
+-- the marks of a complete transversal, as the arrays of the code hold them: the row of each column and the column of each row
+pub record Marking : Type 0 where
+  pub rows : List ℕ
+  pub columns : List ℕ
+
+abbrev pub marking : List ℕ → List ℕ → Marking
+marking row-of column-of = record { rows = row-of; columns = column-of }
+
+-- they are the marks of column maxima, and the arrays have room for the largest table
 pub record MarkedIn (t : List ℤ) (n : ℕ) (l : List ℕ) (w : Marking) : Type 0 where
   pub long-rows : length (w .rows) ≡ rows
   pub long-columns : length (w .columns) ≡ rows
   pub marked : Marked t n l (w .rows) (w .columns)
+
+-- rows k and m and their columns are within the arrays
+pub record Swappable (columns : List ℕ) (k m : ℕ) : Type 0 where
+  pub row : k < rows
+  pub other : m < rows
+  pub column : nums columns k < rows
+  pub other-column : nums columns m < rows
 
 -- rows k and m have exchanged their columns
 pub record Swapped (w : Marking) (k m : ℕ) (r : Marking) : Type 0 where

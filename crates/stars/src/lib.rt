@@ -5,24 +5,9 @@ ghost use Rattle.theory.specs.Table.{entry};
 ghost use Rattle.theory.specs.Canon.{Maximum, Stars};
 ghost use Rattle.orders.specs.Tested.{Tells};
 ghost use Rattle.stars.specs.Given.{Given, Ready};
-ghost use Rattle.stars.specs.Search.{Least, Columns, Joined, FoundIn, Scanned, Searched};
-ghost use Rattle.stars.specs.Shift.{MarkedIn, Swapped, Settled, Later};
+ghost use Rattle.stars.specs.Search.{Least, Columns, ways, Joined, FoundIn, Scanned, Unsearched, Searched};
+ghost use Rattle.stars.specs.Shift.{marking, MarkedIn, Swappable, Swapped, Settled, Later};
 use orders::ROWS;
-
-// The marks of a complete transversal: the row of each column and the column of each row.
-pub struct Marking {
-    pub rows: [usize; ROWS],
-    pub columns: [usize; ROWS],
-}
-
-// The rows from which the column of one row can be reached by column maxima, as they were found: the row itself is queue[0], row
-// queue[p] has step p + 1 and goes on to the column of row next, which was found before it. A row that was not found has step 0.
-pub struct Ways {
-    pub next: [usize; ROWS],
-    pub step: [usize; ROWS],
-    pub queue: [usize; ROWS],
-    pub count: usize,
-}
 
 // Is the place of row i and column j a column maximum? It is when it is present and the raised order is the column's head. The
 // contract rules out an absent place, another row's addition and a test that always says one thing.
@@ -69,29 +54,34 @@ fn least(
     own
 }
 
-// Row k joins, with a step to row m.
-fn joined(ways: Ways, k: usize, m: usize) -> Ways
-    requires { ⌜ (k < rows) × (ways .count < rows) ⌝ }
-    ensures { λ r. ⌜ Joined ways k m r ⌝ }
+// The rows from which the column of one row can be reached by column maxima are held as they are found: row queue[p] has step p + 1
+// and goes on to the column of row next, which was found before it. The row itself is the first; a row that is not found has step 0.
+
+// Row k joins, with a step to row m: the count of the rows found.
+fn join(
+    k: usize,
+    m: usize,
+    count: usize,
+    next: &mut [usize; ROWS],
+    step: &mut [usize; ROWS],
+    queue: &mut [usize; ROWS],
+) -> usize
+    requires { ⌜ (k < rows) × (count < rows) ⌝ }
+    ensures { λ r. ⌜ Joined
+        (ways (now (next .entry)) (now (step .entry)) (now (queue .entry)) count)
+        k
+        m
+        (ways (now (next .exit)) (now (step .exit)) (now (queue .exit)) r) ⌝ }
 {
-    let mut next = ways.next;
-    let mut step = ways.step;
-    let mut queue = ways.queue;
-    let count = ways.count;
     next[k] = m;
     step[k] = count + 1;
     queue[count] = k;
-    Ways {
-        next: next,
-        step: step,
-        queue: queue,
-        count: count + 1,
-    }
+    count + 1
 }
 
-// The rows after i that have a maximum in the column of row m join. The contract rules out a row left out, a row before i, and a row
-// whose way does not lead on to rows found before it.
-fn scanned(
+// The rows after i that have a maximum in the column of row m join: the count of the rows found. The contract rules out a row left
+// out, a row before i, and a row whose way does not lead on to rows found before it.
+fn scan(
     table: &[i16],
     n: usize,
     additions: &[u32; ROWS],
@@ -99,18 +89,30 @@ fn scanned(
     columns: &[usize; ROWS],
     i: usize,
     m: usize,
-    ways: Ways,
-) -> Ways
-    requires { ⌜ Given (now table) n (now additions) (now heads) × Columns n i (now columns) × (m < n) × (0 < nums (ways .step) m) × FoundIn (now table) n (now additions) i (now columns) ways ⌝ }
-    ensures { λ r. ⌜ Scanned (now (table .entry)) n (now (additions .entry)) i (now (columns .entry)) m n ways r ⌝ }
+    count: usize,
+    next: &mut [usize; ROWS],
+    step: &mut [usize; ROWS],
+    queue: &mut [usize; ROWS],
+) -> usize
+    requires { ⌜ Given (now table) n (now additions) (now heads) × Columns n i (now columns) × (m < n) × (0 < nums (now step) m) × FoundIn (now table) n (now additions) i (now columns) (ways (now next) (now step) (now queue) count) ⌝ }
+    ensures { λ r. ⌜ Scanned
+        (now (table .entry))
+        n
+        (now (additions .entry))
+        i
+        (now (columns .entry))
+        m
+        n
+        (ways (now (next .entry)) (now (step .entry)) (now (queue .entry)) count)
+        (ways (now (next .exit)) (now (step .exit)) (now (queue .exit)) r) ⌝ }
 {
     let column = columns[m];
-    let mut found = ways;
+    let mut found = count;
     let mut k = i + 1;
     while k < n {
-        if found.step[k] == 0 {
+        if step[k] == 0 {
             if tight(table, n, additions, heads, k, column) {
-                found = joined(found, k, m);
+                found = join(k, m, found, &mut *next, &mut *step, &mut *queue);
             }
         }
         k += 1;
@@ -120,103 +122,124 @@ fn scanned(
 
 // The rows from i on from which the column of row i can be reached: the columns of the rows found are scanned one after the other.
 // The contract rules out a search that stops while a column of a row found is not scanned.
-fn searched(
+fn find_ways(
     table: &[i16],
     n: usize,
     additions: &[u32; ROWS],
     heads: &[i32; ROWS],
     columns: &[usize; ROWS],
     i: usize,
-) -> Ways
-    requires { ⌜ Given (now table) n (now additions) (now heads) × Columns n i (now columns) ⌝ }
-    ensures { λ r. ⌜ Searched (now (table .entry)) n (now (additions .entry)) i (now (columns .entry)) r ⌝ }
+    next: &mut [usize; ROWS],
+    step: &mut [usize; ROWS],
+)
+    requires { ⌜ Given (now table) n (now additions) (now heads) × Columns n i (now columns) × Unsearched n (now next) (now step) ⌝ }
+    ensures { λ r. ⌜ Searched (now (table .entry)) n (now (additions .entry)) i (now (columns .entry)) (now (next .exit)) (now (step .exit)) ⌝ }
 {
-    let none = Ways {
-        next: [0usize; ROWS],
-        step: [0usize; ROWS],
-        queue: [0usize; ROWS],
-        count: 0,
-    };
-    let mut ways = joined(none, i, i);
+    let mut queue = [0usize; ROWS];
+    let mut count = join(i, i, 0, &mut *next, &mut *step, &mut queue);
     let mut at = 0;
-    while at < ways.count {
-        let m = ways.queue[at];
-        ways = scanned(table, n, additions, heads, columns, i, m, ways);
+    while at < count {
+        let m = queue[at];
+        count = scan(
+            table,
+            n,
+            additions,
+            heads,
+            columns,
+            i,
+            m,
+            count,
+            &mut *next,
+            &mut *step,
+            &mut queue,
+        );
         at += 1;
     }
-    ways
 }
 
 // Rows k and m exchange their columns.
-fn swapped(marks: Marking, k: usize, m: usize) -> Marking
-    requires { ⌜ (k < rows) × (m < rows) × (nums (marks .columns) k < rows) × (nums (marks .columns) m < rows) ⌝ }
-    ensures { λ r. ⌜ Swapped marks k m r ⌝ }
+fn swap(k: usize, m: usize, rows: &mut [usize; ROWS], columns: &mut [usize; ROWS])
+    requires { ⌜ Swappable (now columns) k m ⌝ }
+    ensures { λ r. ⌜ Swapped (marking (now (rows .entry)) (now (columns .entry))) k m (marking (now (rows .exit)) (now (columns .exit))) ⌝ }
 {
-    let mut rows = marks.rows;
-    let mut columns = marks.columns;
     let left = columns[k];
     let taken = columns[m];
     columns[k] = taken;
     columns[m] = left;
     rows[taken] = k;
     rows[left] = m;
-    Marking {
-        rows: rows,
-        columns: columns,
-    }
 }
 
 // Row i takes the first column that the rows before it leave to it, and the marks are shifted along the way from there to the column
 // that row i had: at each turn row k has that column, and exchanges it for the column of the next row m. The contract rules out
 // moving a row before i, and leaving row i at a column when a transversal of maxima with the same rows before i has an earlier one.
-fn moved(
+fn shift(
     table: &[i16],
     n: usize,
     additions: &[u32; ROWS],
     heads: &[i32; ROWS],
-    marks: Marking,
     i: usize,
-) -> Marking
-    requires { ⌜ Given (now table) n (now additions) (now heads) × MarkedIn (now table) n (now additions) marks × (i < n) ⌝ }
-    ensures { λ r. ⌜ Settled (now (table .entry)) n (now (additions .entry)) marks i r ⌝ }
+    rows: &mut [usize; ROWS],
+    columns: &mut [usize; ROWS],
+)
+    requires { ⌜ Given (now table) n (now additions) (now heads) × MarkedIn (now table) n (now additions) (marking (now rows) (now columns)) × (i < n) ⌝ }
+    ensures { λ r. ⌜ Settled
+        (now (table .entry))
+        n
+        (now (additions .entry))
+        (marking (now (rows .entry)) (now (columns .entry)))
+        i
+        (marking (now (rows .exit)) (now (columns .exit))) ⌝ }
 {
-    let rows = marks.rows;
-    let columns = marks.columns;
-    let ways = searched(table, n, additions, heads, &columns, i);
-    let step = ways.step;
-    let j = least(table, n, additions, heads, &rows, &step, i, columns[i]);
-    let mut shifted = marks;
+    let mut next = [0usize; ROWS];
+    let mut step = [0usize; ROWS];
+    find_ways(
+        table,
+        n,
+        additions,
+        heads,
+        &*columns,
+        i,
+        &mut next,
+        &mut step,
+    );
+    let j = least(table, n, additions, heads, &*rows, &step, i, columns[i]);
     let mut k = i;
     let mut m = rows[j];
-    while m != i {
-        shifted = swapped(shifted, k, m);
+    while step[m] != 1 {
+        swap(k, m, &mut *rows, &mut *columns);
         k = m;
-        m = ways.next[m];
+        m = next[m];
     }
-    shifted
 }
 
-// The marks with row i at the first column that the rows before it leave to it. Most rows have it already: no earlier column in
-// which row i has a maximum belongs to a later row, and nothing is searched.
-fn settled(
+// Row i comes to the first column that the rows before it leave to it. Most rows are there already: no earlier column in which row i
+// has a maximum belongs to a later row, and nothing is searched.
+fn settle(
     table: &[i16],
     n: usize,
     additions: &[u32; ROWS],
     heads: &[i32; ROWS],
-    marks: Marking,
     later: &[usize; ROWS],
     i: usize,
-) -> Marking
-    requires { ⌜ Given (now table) n (now additions) (now heads) × MarkedIn (now table) n (now additions) marks × Later n i (now later) × (i < n) ⌝ }
-    ensures { λ r. ⌜ Settled (now (table .entry)) n (now (additions .entry)) marks i r ⌝ }
+    rows: &mut [usize; ROWS],
+    columns: &mut [usize; ROWS],
+)
+    requires { ⌜ Given (now table) n (now additions) (now heads) × MarkedIn (now table) n (now additions) (marking (now rows) (now columns)) × Later n i (now later) × (i < n) ⌝ }
+    ensures { λ r. ⌜ Settled
+        (now (table .entry))
+        n
+        (now (additions .entry))
+        (marking (now (rows .entry)) (now (columns .entry)))
+        i
+        (marking (now (rows .exit)) (now (columns .exit))) ⌝ }
 {
-    let rows = marks.rows;
-    let own = marks.columns[i];
-    let j = least(table, n, additions, heads, &rows, later, i, own);
+    let own = columns[i];
+    let j = least(table, n, additions, heads, &*rows, later, i, own);
     if j == own {
-        return marks;
+        return;
     }
-    moved(table, n, additions, heads, marks, i)
+    shift(table, n, additions, heads, i, &mut *rows, &mut *columns);
 }
 
 // The columns of the first complete transversal of column maxima, from the marks of any: one row after the other comes to the first
@@ -234,16 +257,23 @@ pub fn first_stars(
     requires { ⌜ Ready (now table) n (now additions) (now heads) «row_of» «column_of» ⌝ }
     ensures { λ r. ⌜ Stars n (entry (now (table .entry)) n) (nums (now (additions .entry))) (nums r) ⌝ }
 {
-    let mut marks = Marking {
-        rows: row_of,
-        columns: column_of,
-    };
+    let mut rows = row_of;
+    let mut columns = column_of;
     let mut later = [1usize; ROWS];
     let mut i = 0;
     while i < n {
-        marks = settled(table, n, additions, heads, marks, &later, i);
+        settle(
+            table,
+            n,
+            additions,
+            heads,
+            &later,
+            i,
+            &mut rows,
+            &mut columns,
+        );
         later[i] = 0;
         i += 1;
     }
-    marks.columns
+    columns
 }

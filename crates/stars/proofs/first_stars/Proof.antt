@@ -2,43 +2,44 @@
 use Prim.Native.Nat.{_-_}
 use native.Mathlib.Omega.{arith}
 use borrow.Author.Needs.{needs}
+use Rattle.stars.specs.Shift.{marking}
 use Rattle.stars.proofs.Progress.{Progress, progress-start, progress-next, progress-end}
 use Rattle.stars.proofs.first_stars.Statement.{statement}
 use Rattle.stars.proofs.first_stars.Tie as tie
 
 abbrev Inv-loop : tie.InvT-loop
-Inv-loop n table additions heads marks₀ later₀ i₀ marks later i = Progress table n additions marks later i
+Inv-loop n table additions heads rows₀ columns₀ later₀ i₀ rows columns later i = Progress table n additions (marking rows columns) later i
 
 abbrev μ-loop : tie.MeasureT-loop
-μ-loop n table additions heads marks₀ later₀ i₀ marks later i = n - i
+μ-loop n table additions heads rows₀ columns₀ later₀ i₀ rows columns later i = n - i
 
 loop-holds : tie.Need-loop-holds Inv-loop μ-loop
 loop-holds c =
     progress-start (c .pre .given .square .small)
     (record { long-rows = search needs; long-columns = search needs; marked = c .pre .marked })
 
-settled-requires : tie.Need-settled-requires Inv-loop μ-loop
-settled-requires c κs =
-    let p = c .before .before .loop .inv in
-    (c .before .before .before .pre .given, p .marked, p .eligible, omega arith)
+settle-requires : tie.Need-settle-requires Inv-loop μ-loop
+settle-requires c κs =
+    let p = c .before .before .before .before .loop .inv in
+    (c .before .before .before .before .before .pre .given, p .marked, p .eligible, omega arith)
 
 mul-later : tie.Need-mul-later Inv-loop μ-loop
-mul-later c = omega (arith, c .before .before .before .before .pre .given .square .small)
+mul-later c = omega (arith, c .before .before .before .before .before .before .pre .given .square .small)
 
 array-write-later : tie.Need-array-write-later Inv-loop μ-loop
-array-write-later c = omega (arith, c .before .before .before .before .pre .given .square .small)
+array-write-later c = omega (arith, c .before .before .before .before .before .before .pre .given .square .small)
 
 add-i : tie.Need-add-i Inv-loop μ-loop
-add-i c = omega (arith, c .before .before .before .before .pre .given .square .small)
+add-i c = omega (arith, c .before .before .before .before .before .before .pre .given .square .small)
 
 loop-less : tie.Need-loop-less Inv-loop μ-loop
 loop-less c = omega arith
 
 loop-again : tie.Need-loop-again Inv-loop μ-loop
-loop-again c = progress-next (c .before .before .before .loop .inv) (omega arith) (c .settled .ensures)
+loop-again c = progress-next (c .before .before .before .before .before .loop .inv) (omega arith) (c .settle .ensures)
 
 returns : tie.Need-returns Inv-loop μ-loop
-returns c = progress-end (c .before .before .loop .inv) (omega arith)
+returns c = progress-end (c .before .loop .inv) (omega arith)
 
 pub first-stars-spec : {M : Type 1} → statement M
 first-stars-spec =
@@ -47,7 +48,7 @@ first-stars-spec =
     Inv-loop
     μ-loop
     loop-holds
-    settled-requires
+    settle-requires
     mul-later
     array-write-later
     add-i

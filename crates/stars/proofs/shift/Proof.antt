@@ -1,0 +1,122 @@
+-- Row i takes the first column that the rows before it leave to it, and the marks are shifted along the way. Assumes nothing.
+use native.Mathlib.Omega.{arith}
+use Rattle.theory.specs.Lists.{nums}
+use Rattle.stars.specs.Shift.{marking}
+use Rattle.stars.proofs.Moving.{ShiftingIn, unsearched, chosen-below, move-start, move-less, move-next, move-end}
+use Rattle.stars.proofs.shift.Statement.{statement}
+use Rattle.stars.proofs.shift.Tie as tie
+
+abbrev Inv-loop : tie.InvT-loop
+Inv-loop table n additions heads i rows₀ columns₀ next step j k₀ m₀ rows columns k m =
+    ShiftingIn table n additions i j (marking rows₀ columns₀) step (marking rows columns) k m
+
+abbrev μ-loop : tie.MeasureT-loop
+μ-loop table n additions heads i rows₀ columns₀ next step j k₀ m₀ rows columns k m = nums step m
+
+find-ways-requires : tie.Need-find-ways-requires Inv-loop μ-loop
+find-ways-requires c κs =
+    let p = c .before .before .before .pre in
+    (p .0, record { row = p .2; column = p .1 .marked .marks .column }, unsearched (p .0 .square .small))
+
+mul-least : tie.Need-mul-least Inv-loop μ-loop
+mul-least c = omega (arith, c .before .before .before .before .before .before .pre .0 .square .small)
+
+element-copy-out-least : tie.Need-element-copy-out-least Inv-loop μ-loop
+element-copy-out-least c = omega (arith, c .before .before .before .before .before .before .pre .0 .square .small)
+
+least-requires : tie.Need-least-requires Inv-loop μ-loop
+least-requires c κs =
+    let s = c .before .before .before .before .before .before .before in
+    let p = s .pre in
+    (p .0, p .2, p .1 .marked .marks .column (s .args .i) (p .2), p .1 .marked .marks .row)
+
+mul-m : tie.Need-mul-m Inv-loop μ-loop
+mul-m c =
+    let p = c .before .before .before .before .before .before .before .before .pre in
+    omega (arith, p .0 .square .small, chosen-below (p .0 .square .small) (p .1) (p .2) (c .before .before .before .before .find-ways .ensures) (c .least .ensures))
+
+element-copy-out-m : tie.Need-element-copy-out-m Inv-loop μ-loop
+element-copy-out-m c =
+    let p = c .before .before .before .before .before .before .before .before .pre in
+    omega (arith, p .0 .square .small, chosen-below (p .0 .square .small) (p .1) (p .2) (c .before .before .before .before .find-ways .ensures) (c .least .ensures))
+
+loop-holds : tie.Need-loop-holds Inv-loop μ-loop
+loop-holds c =
+    let p = c .before .before .before .before .before .before .before .before .before .pre in
+    move-start (p .0 .square .small) (p .1) (p .2) (c .before .before .before .before .before .find-ways .ensures) (c .before .least .ensures)
+
+mul-loop : tie.Need-mul-loop Inv-loop μ-loop
+mul-loop c = omega (arith, c .before .before .before .before .before .before .before .before .before .before .pre .0 .square .small, c .loop .inv .shift .goal)
+
+array-read-loop : tie.Need-array-read-loop Inv-loop μ-loop
+array-read-loop c =
+    let p = c .before .before .before .before .before .before .before .before .before .before .pre in
+    omega (arith, p .0 .square .small, c .loop .inv .shift .goal, c .before .before .before .before .before .before .find-ways .ensures .found .long .step)
+
+swap-requires : tie.Need-swap-requires Inv-loop μ-loop
+swap-requires c κs =
+    let small = c .before .before .before .before .before .before .before .before .before .before .before .before .before .pre .0 .square .small in
+    let o = c .before .before .before .loop in
+    let f = o .inv .shift in
+    let row = f .row in
+    let goal = f .goal in
+    record {
+      row = omega arith;
+      other = omega arith;
+      column = omega (arith, f .marks .column (o .k) row);
+      other-column = omega (arith, f .marks .column (o .m) goal);
+    }
+
+mul-m-2 : tie.Need-mul-m-2 Inv-loop μ-loop
+mul-m-2 c =
+    let p = c .before .before .before .before .before .before .before .before .before .before .before .before .before .before .pre in
+    omega (arith, p .0 .square .small, c .before .before .before .before .loop .inv .shift .goal)
+
+array-read-m : tie.Need-array-read-m Inv-loop μ-loop
+array-read-m c =
+    let p = c .before .before .before .before .before .before .before .before .before .before .before .before .before .before .pre in
+    let ways = c .before .before .before .before .before .before .before .before .before .before .find-ways .ensures in
+    omega (arith, p .0 .square .small, c .before .before .before .before .loop .inv .shift .goal, ways .found .long .next)
+
+loop-less : tie.Need-loop-less Inv-loop μ-loop
+loop-less c =
+    let p = c .before .before .before .before .before .before .before .before .before .before .before .before .before .before .pre in
+    let ways = c .before .before .before .before .before .before .before .before .before .before .find-ways .ensures in
+    let chosen = c .before .before .before .before .before .before .least .ensures in
+    move-less (p .0 .square .small) (p .1) (p .2) ways chosen (c .before .before .before .before .loop .inv) (c .before .before .before .loop-test .taken)
+
+loop-again : tie.Need-loop-again Inv-loop μ-loop
+loop-again c =
+    let p = c .before .before .before .before .before .before .before .before .before .before .before .before .before .before .pre in
+    let ways = c .before .before .before .before .before .before .before .before .before .before .find-ways .ensures in
+    let chosen = c .before .before .before .before .before .before .least .ensures in
+    move-next (p .0 .square .small) (p .1) (p .2) ways chosen (c .before .before .before .before .loop .inv) (c .before .before .before .loop-test .taken) (c .swap .ensures)
+
+returns : tie.Need-returns Inv-loop μ-loop
+returns c =
+    let p = c .before .before .before .before .before .before .before .before .before .before .before .pre in
+    let ways = c .before .before .before .before .before .before .before .find-ways .ensures in
+    let chosen = c .before .before .before .least .ensures in
+    move-end (p .0 .square .small) (p .1) (p .2) ways chosen (c .before .loop .inv) (c .loop-test .left)
+
+pub shift-spec : {M : Type 1} → statement M
+shift-spec =
+    tie.close
+    (tie.spec
+    Inv-loop
+    μ-loop
+    find-ways-requires
+    mul-least
+    element-copy-out-least
+    least-requires
+    mul-m
+    element-copy-out-m
+    loop-holds
+    mul-loop
+    array-read-loop
+    swap-requires
+    mul-m-2
+    array-read-m
+    loop-less
+    loop-again
+    returns)

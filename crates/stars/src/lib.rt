@@ -57,7 +57,7 @@ fn least(
 // The rows from which the column of one row can be reached by column maxima are held as they are found: row queue[p] has step p + 1
 // and goes on to the column of row next, which was found before it. The row itself is the first; a row that is not found has step 0.
 
-// Row k joins, with a step to row m: the count of the rows found.
+// Row k joins, with a step to row m: the count of the rows found. Rules out another row's step or way changed.
 fn join(
     k: usize,
     m: usize,
@@ -157,7 +157,7 @@ fn find_ways(
     }
 }
 
-// Rows k and m exchange their columns.
+// Rows k and m exchange their columns. Rules out a mark of another row or column changed.
 fn swap(k: usize, m: usize, rows: &mut [usize; ROWS], columns: &mut [usize; ROWS])
     requires { ⌜ Swappable (now columns) k m ⌝ }
     ensures { λ r. ⌜ Swapped (marking (now (rows .entry)) (now (columns .entry))) k m (marking (now (rows .exit)) (now (columns .exit))) ⌝ }
@@ -171,8 +171,9 @@ fn swap(k: usize, m: usize, rows: &mut [usize; ROWS], columns: &mut [usize; ROWS
 }
 
 // Row i takes the first column that the rows before it leave to it, and the marks are shifted along the way from there to the column
-// that row i had: at each turn row k has that column, and exchanges it for the column of the next row m. The contract rules out
-// moving a row before i, and leaving row i at a column when a transversal of maxima with the same rows before i has an earlier one.
+// that row i had: at each turn row k has that column, and exchanges it for the column of the next row m, up to row i itself, whose
+// step is 1. The contract rules out moving a row before i, and leaving row i at a column when a transversal of maxima with the same
+// rows before i has an earlier one.
 fn shift(
     table: &[i16],
     n: usize,
@@ -214,7 +215,7 @@ fn shift(
 }
 
 // Row i comes to the first column that the rows before it leave to it. Most rows are there already: no earlier column in which row i
-// has a maximum belongs to a later row, and nothing is searched.
+// has a maximum belongs to a later row, and nothing is searched. Rules out what `shift` rules out.
 fn settle(
     table: &[i16],
     n: usize,

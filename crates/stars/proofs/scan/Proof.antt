@@ -10,7 +10,7 @@ use Rattle.stars.proofs.scan.Tie as tie
 
 abbrev Inv-loop : tie.InvT-loop
 Inv-loop table n additions heads columns i m count next₀ step₀ queue₀ column found₀ k₀ next step queue found k =
-    Scanned table n additions i columns m k (ways next₀ step₀ queue₀ count) (ways next step queue found) × (i < k) × (k ≤ n)
+    (i < k) × (k ≤ n) × Scanned table n additions i columns m k (ways next₀ step₀ queue₀ count) (ways next step queue found)
 
 abbrev μ-loop : tie.MeasureT-loop
 μ-loop table n additions heads columns i m count next₀ step₀ queue₀ column found₀ k₀ next step queue found k = n - k
@@ -25,7 +25,7 @@ add-k : tie.Need-add-k Inv-loop μ-loop
 add-k c = omega (arith, c .before .pre .0 .square .small, c .before .pre .1 .row)
 
 loop-holds : tie.Need-loop-holds Inv-loop μ-loop
-loop-holds c = (scan-start (c .before .pre .4), omega arith, omega (arith, c .before .pre .1 .row))
+loop-holds c = (omega arith, omega (arith, c .before .pre .1 .row), scan-start (c .before .pre .4))
 
 mul-if1 : tie.Need-mul-if1 Inv-loop μ-loop
 mul-if1 c = omega (arith, c .before .before .before .pre .0 .square .small)
@@ -42,7 +42,7 @@ join-requires c κs =
     let o = c .before .before .before .before .before .before .before .before .loop in
     let small = s .pre .0 .square .small in (
       omega arith,
-      omega (arith, join-room (o .inv .0 .ways) (o .k) (omega arith) (c .before .before .before .before .before .if1 .taken)),
+      omega (arith, join-room (o .inv .2 .ways) (o .k) (omega arith) (c .before .before .before .before .before .if1 .taken)),
     )
 
 add-k-2 : tie.Need-add-k-2 Inv-loop μ-loop
@@ -55,20 +55,20 @@ loop-again : tie.Need-loop-again Inv-loop μ-loop
 loop-again c =
     let s = c .before .before .before .before .before in
     let o = c .before .before .before .loop in (
+      omega arith,
+      omega arith,
       elim (c .if1 .came) [
-        | inl w ↦ rw (w .7, w .8, w .9, w .10) (scan-join (o .inv .0) (s .pre .0 .square .small) (omega arith) (omega arith) (w .0 .taken) (s .pre .2) (s .pre .3)
+        | inl w ↦ rw (w .7, w .8, w .9, w .10) (scan-join (o .inv .2) (s .pre .0 .square .small) (omega arith) (omega arith) (w .0 .taken) (s .pre .2) (s .pre .3)
             (w .1 .ensures .holds (w .2 .taken)) (w .6 .ensures))
-        | inr (inl w) ↦ rw (w .3, w .4, w .5, w .6) (scan-next (o .inv .0) (λ t. absurd (w .1 .ensures .fails (w .2 .left) t)))
-        | inr (inr w) ↦ rw (w .1, w .2, w .3, w .4) (scan-next (o .inv .0) (λ t. omega (arith, w .0 .left)))
+        | inr (inl w) ↦ rw (w .3, w .4, w .5, w .6) (scan-next (o .inv .2) (λ t. absurd (w .1 .ensures .fails (w .2 .left) t)))
+        | inr (inr w) ↦ rw (w .1, w .2, w .3, w .4) (scan-next (o .inv .2) (λ t. omega (arith, w .0 .left)))
       ],
-      omega arith,
-      omega arith,
     )
 
 returns : tie.Need-returns Inv-loop μ-loop
 returns c =
     let e : c .before .loop .k ≡ c .before .before .before .args .n = omega arith in
-    rw e at (c .before .loop .inv .0)
+    rw e at (c .before .loop .inv .2)
 
 pub scan-spec : {M : Type 1} → statement M
 scan-spec =

@@ -5,10 +5,8 @@ ghost use lib.IntN.{natAbs};
 ghost use lib.ListN.{length};
 ghost use Rattle.sheet.specs.Text.{text, signed, ended};
 ghost use Rattle.lettering.specs.Putting.{Puts};
-
-const FEED: u8 = 10;
-
-const MINUS: u8 = 45;
+use sheet::FEED;
+use sheet::MINUS;
 
 // The digits of a number. Rules out another count than that of the number's text.
 pub fn digits(v: usize) -> usize

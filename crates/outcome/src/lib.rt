@@ -68,7 +68,7 @@ fn numbered(n: usize, columns: &[usize; ROWS]) -> [u32; ROWS]
 }
 
 // Fixed numbers copied out into a lent slice. Rules out a number left as it was.
-fn copy_u32(from: [u32; ROWS], to: &mut [u32])
+fn copy_numbers(from: [u32; ROWS], to: &mut [u32])
     requires { ⌜ length (now to) ≤ rows ⌝ }
     ensures { λ _. ⌜ now (to .exit) ≡ take (length (now (to .entry))) from ⌝ }
 {
@@ -79,8 +79,8 @@ fn copy_u32(from: [u32; ROWS], to: &mut [u32])
     }
 }
 
-// The same of signed numbers.
-fn copy_i32(from: [i32; ROWS], to: &mut [i32])
+// The same of heads.
+fn copy_heads(from: [i32; ROWS], to: &mut [i32])
     requires { ⌜ length (now to) ≤ rows ⌝ }
     ensures { λ _. ⌜ now (to .exit) ≡ take (length (now (to .entry))) from ⌝ }
 {
@@ -133,9 +133,9 @@ fn hand_out(answer: Whole, adds: &mut [u32], stars: &mut [u32], heads: &mut [i32
     let a = answer.additions;
     let s = answer.stars;
     let h = answer.heads;
-    copy_u32(a, adds);
-    copy_u32(s, stars);
-    copy_i32(h, heads);
+    copy_numbers(a, adds);
+    copy_numbers(s, stars);
+    copy_heads(h, heads);
 }
 
 // The whole answer of a canon, worked out by value and then copied out into the lent slices; returned is the sum. Rules out a

@@ -21,8 +21,7 @@ use orders::number;
 use reader::LABELS;
 use reader::Read;
 use reader::read_sheet;
-
-const FEED: u8 = 10;
+use sheet::FEED;
 
 // A room in which every answer fits: `answers-fit` in proofs/Fits.
 pub const ENOUGH: usize = 512;

@@ -15,16 +15,13 @@ use orders::PLACES;
 use orders::ROWS;
 use orders::Refusal;
 use orders::SHEET;
+use sheet::BLANK;
+use sheet::FEED;
+use sheet::MINUS;
 use sheet::WIDTH;
 
 // The bytes of a label buffer.
 pub const LABELS: usize = WIDTH * ROWS;
-
-const FEED: u8 = 10;
-
-const BLANK: u8 = 32;
-
-const MINUS: u8 = 45;
 
 // The largest order, without its sign.
 const SIZE: usize = orders::ORDER as usize;

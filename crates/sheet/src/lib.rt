@@ -5,6 +5,13 @@ ghost use Rattle.sheet.specs.Labels.{LetterOrDigit, Form, Repeated};
 // "8 bytes a label"
 pub const WIDTH: usize = 8;
 
+// The bytes that part a sheet: the end of a line, the one between fields, the one before a number below 0.
+pub const FEED: u8 = 10;
+
+pub const BLANK: u8 = 32;
+
+pub const MINUS: u8 = 45;
+
 // Is a byte a letter or a digit? Rules out bytes beside those three runs.
 fn letter_or_digit(b: u8) -> bool
     ensures { λ r. ⌜ Tells r (LetterOrDigit b) ⌝ }

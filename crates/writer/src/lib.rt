@@ -20,11 +20,9 @@ use lettering::put_value_line;
 use orders::ABSENT;
 use orders::ROWS;
 use orders::Refusal;
+use sheet::BLANK;
+use sheet::FEED;
 use sheet::WIDTH;
-
-const FEED: u8 = 10;
-
-const BLANK: u8 = 32;
 
 // The sheet's length, or the refusal.
 pub enum Written {

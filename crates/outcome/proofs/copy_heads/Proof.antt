@@ -9,8 +9,8 @@ use lib.Seq.{take-length}
 use mir.Syntax.{w32}
 use Rattle.orders.proofs.Entries.{back}
 use Rattle.outcome.proofs.Copies.{copy-more}
-use Rattle.outcome.proofs.copy_i32.Statement.{statement}
-use Rattle.outcome.proofs.copy_i32.Tie as tie
+use Rattle.outcome.proofs.copy_heads.Statement.{statement}
+use Rattle.outcome.proofs.copy_heads.Tie as tie
 
 abbrev Inv-loop : tie.InvT-loop
 Inv-loop to₀ from i₀ to i = (i ≤ length to) × (length to ≡ length to₀) × (take i to ≡ take i from)
@@ -58,6 +58,6 @@ returns c =
     let e : l .i ≡ length (l .to) = omega arith in
     sym (take-length (l .to)) ∙ (rw e at (l .inv .2)) ∙ ap (λ k. take k (c .before .before .args .t1)) (l .inv .1)
 
-pub copy-i32-spec : {M : Type 1} → statement M
-copy-i32-spec =
+pub copy-heads-spec : {M : Type 1} → statement M
+copy-heads-spec =
     tie.close (tie.spec Inv-loop μ-loop loop-holds mul-v array-copy-out-v mul-v-2 slice-set-from-v add-i loop-less loop-again same-length returns)

@@ -6,8 +6,8 @@ use borrow.Author.Needs.{needs}
 use lib.ListN.{length, take, length-set}
 use lib.Seq.{take-length}
 use Rattle.outcome.proofs.Copies.{copy-more}
-use Rattle.outcome.proofs.copy_u32.Statement.{statement}
-use Rattle.outcome.proofs.copy_u32.Tie as tie
+use Rattle.outcome.proofs.copy_numbers.Statement.{statement}
+use Rattle.outcome.proofs.copy_numbers.Tie as tie
 
 abbrev Inv-loop : tie.InvT-loop
 Inv-loop to₀ from i₀ to i = (i ≤ length to) × (length to ≡ length to₀) × (take i to ≡ take i from)
@@ -51,6 +51,6 @@ returns c =
     let e : l .i ≡ length (l .to) = omega arith in
     sym (take-length (l .to)) ∙ (rw e at (l .inv .2)) ∙ ap (λ k. take k (c .before .before .args .t1)) (l .inv .1)
 
-pub copy-u32-spec : {M : Type 1} → statement M
-copy-u32-spec =
+pub copy-numbers-spec : {M : Type 1} → statement M
+copy-numbers-spec =
     tie.close (tie.spec Inv-loop μ-loop loop-holds mul-to array-read-to mul-to-2 slice-write-to add-i loop-less loop-again same-length returns)

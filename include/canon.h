@@ -3,7 +3,7 @@
  *
  * The calls are those of the proved library; link them from the archive that `rt staticlib exports` writes
  * (target/staticlib/libexports.a, x86-64 Linux). They keep no state, allocate nothing, call nothing outside the
- * archive, and may be used from several threads at once.
+ * archive but memcpy and memset, and may be used from several threads at once.
  *
  * THE TABLE. Rows are equations and columns unknowns, both numbered from 1. A table of N rows is N * N numbers, row by
  * row. CANON_ABSENT says that the unknown does not occur in the equation; every other number is an order.
@@ -33,7 +33,7 @@
  *    9   CANON_TOO_LONG            a sheet is longer than 12,288 bytes
  *   10   CANON_LINE                a line of a sheet is wrong
  *   11   CANON_LABEL               a label handed to the writer is malformed or repeated
- *   12   CANON_ROOM                the sheet does not fit the writer's lent room
+ *   12   CANON_ROOM                the sheet, or the printed answer, does not fit the lent room
  *
  *   thing                          limit
  *   rows N                         1 to 32

@@ -3,7 +3,8 @@
 
 The reader and the writer below are written straight from document 01, "The sheet" and "Refusal numbers", and share no code and no
 design with the crates: the reader here finds the first wrong line by regular expressions, the writer joins strings.
-Run it in the repository's root: python3 tests/sheet_vectors.py
+Run it in the repository's root: python3 tests/sheet_vectors.py [--check]. With --check it writes nothing, and fails where what is
+stored is not what it makes.
 """
 import os
 import re
@@ -361,17 +362,33 @@ def main():
     heading_damage()
     order_damage()
     written()
+    names_in_order = sorted(vectors)
+    files = {"data/" + name: vectors[name][0] for name in names_in_order}
+    files["args"] = "".join(name + "\n" for name in names_in_order).encode()
+    files["stdout"] = b"".join(name.encode() + vectors[name][1] + b"\n" for name in names_in_order)
+    stored = ["data/" + name for name in os.listdir(HERE + "/data")] if os.path.isdir(HERE + "/data") else []
+    if sys.argv[1:] == ["--check"]:
+        surplus = sorted(set(stored) - set(files))
+        different = [path for path in files if not same_file(HERE + "/" + path, files[path])]
+        if surplus or different:
+            sys.exit(f"crates/sheet_vectors is not what tests/sheet_vectors.py makes: {', '.join((surplus + different)[:5])}")
+        print(f"tests/sheet_vectors.py: the stored vectors are its own, {len(vectors)} of them")
+        return
     os.makedirs(HERE + "/data", exist_ok=True)
-    for old in os.listdir(HERE + "/data"):
-        os.remove(HERE + "/data/" + old)
-    with open(HERE + "/args", "w") as args, open(HERE + "/stdout", "wb") as out:
-        for name in sorted(vectors):
-            call, said = vectors[name]
-            with open(HERE + "/data/" + name, "wb") as f:
-                f.write(call)
-            args.write(name + "\n")
-            out.write(name.encode() + said + b"\n")
+    for path in stored:
+        os.remove(HERE + "/" + path)
+    for path, content in files.items():
+        with open(HERE + "/" + path, "wb") as out:
+            out.write(content)
     print(len(vectors), "vectors")
+
+
+def same_file(path, content):
+    """Is there a file with this content?"""
+    if not os.path.isfile(path):
+        return False
+    with open(path, "rb") as stored:
+        return stored.read() == content
 
 
 main()

@@ -10,6 +10,7 @@ use native.Mathlib.Omega.{arith}
 use lib.IntN.{ℤ, pos, _+ℤ_, ℤ-discrete}
 use lib.ListN.{length}
 use lib.Signed.{_≤ℤ_, ≤ℤ-refl}
+use Rattle.theory.specs.Limits.{rows}
 use Rattle.theory.specs.Lists.{nums}
 use Rattle.theory.specs.Table.{absent, Present, entry, Entries, WithinLimit}
 use Rattle.theory.specs.Canon.{Head}
@@ -22,7 +23,7 @@ use Rattle.orders.proofs.Entries.{clash}
 pub cell : (n i j : ℕ) → i < n → j < n → i * n + j < n * n
 cell n i j hi hj = omega (arith, mul-le-mul-right n hi)
 
-pub square-small : (n : ℕ) → n ≤ 32 → n * n ≤ 1024
+pub square-small : (n : ℕ) → n ≤ rows → n * n ≤ rows * rows
 square-small n h = omega (arith, mul-le-mul-right n h)
 
 -- a table whose entries stand is within the limit at each place

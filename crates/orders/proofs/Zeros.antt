@@ -3,15 +3,16 @@ use Prim.Native.Nat.{ℕ, _≤_}
 use native.Mathlib.Omega.{arith}
 use lib.IntN.{ℤ}
 use lib.ListN.{replicate}
+use Rattle.theory.specs.Limits.{rows}
 use Rattle.theory.specs.Lists.{nums}
 use Rattle.theory.specs.Canon.{LeastFrom, Simplest}
 use Rattle.theory.proofs.Unique.{start-same}
 use Rattle.orders.proofs.Flags.{fresh}
 
 -- they are within every limit
-pub zero-start : (b i : ℕ) → nums (replicate 32 0) i ≤ b
-zero-start b i = omega (arith, fresh {X = ℕ} 32 i 0)
+pub zero-start : (b i : ℕ) → nums (replicate rows 0) i ≤ b
+zero-start b i = omega (arith, fresh {X = ℕ} rows i 0)
 
 -- and the least canon from them is the simplest
-pub zero-simplest : {n : ℕ} {a : ℕ → ℕ → ℤ} {l : ℕ → ℕ} → LeastFrom n a (nums (replicate 32 0)) l → Simplest n a l
-zero-simplest {n} {a} f = start-same n a (λ i hi. fresh {X = ℕ} 32 i 0) f
+pub zero-simplest : {n : ℕ} {a : ℕ → ℕ → ℤ} {l : ℕ → ℕ} → LeastFrom n a (nums (replicate rows 0)) l → Simplest n a l
+zero-simplest {n} {a} f = start-same n a (λ i hi. fresh {X = ℕ} rows i 0) f

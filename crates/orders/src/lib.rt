@@ -11,7 +11,7 @@ ghost use lib.IntN.{pos, _+ℤ_};
 // Document 01's limits.
 pub const ROWS: usize = 32;
 
-pub const PLACES: usize = 1024;
+pub const PLACES: usize = ROWS * ROWS;
 
 pub const ABSENT: i16 = -32768;
 

@@ -6,6 +6,7 @@ use native.Mathlib.Omega.{arith}
 use lib.IntN.{ℤ, pos}
 use lib.ListN.{length, take, length-take}
 use lib.Seq.{getD-take}
+use Rattle.theory.specs.Limits.{rows}
 use Rattle.theory.specs.Lists.{nums, columns, StarList}
 use Rattle.theory.specs.Table.{entry}
 use Rattle.theory.specs.Canon.{Stars}
@@ -25,14 +26,14 @@ star-list long one st =
     }
 
 -- as many as the slice has places are copied
-cut : {X : Type 0} {n : ℕ} (lent from : List X) → n ≤ 32 → length lent ≡ n → length from ≡ 32 → length (take (length lent) from) ≡ n
+cut : {X : Type 0} {n : ℕ} (lent from : List X) → n ≤ rows → length lent ≡ n → length from ≡ rows → length (take (length lent) from) ≡ n
 cut {X} {n} lent from small p q = length-take (length lent) from ∙ least
   where
     least : min (length lent) (length from) ≡ n
     least = omega arith
 
 pub delivery : {t : List ℤ} {n : ℕ} {l row-of column-of adds stars : List ℕ} {heads : List ℤ} {w : Whole} {adds′ stars′ : List ℕ} {heads′ : List ℤ}
-    → Settled t n l row-of column-of → Lent n adds stars heads → length (w .additions) ≡ 32 → length (w .stars) ≡ 32 → length (w .heads) ≡ 32
+    → Settled t n l row-of column-of → Lent n adds stars heads → length (w .additions) ≡ rows → length (w .stars) ≡ rows → length (w .heads) ≡ rows
     → WholeOf t n l w → HandedOut w adds stars heads adds′ stars′ heads′ → Delivered t n l (w .sum) adds′ stars′ heads′
 delivery {t} {n} {l} {row-of} {column-of} {adds} {stars} {heads} {w} {adds′} {stars′} {heads′} settled lent wide-adds wide-stars wide-heads whole out =
     record {
@@ -48,7 +49,7 @@ delivery {t} {n} {l} {row-of} {column-of} {adds} {stars} {heads} {w} {adds′} {
       is-sum = whole .is-sum ∙ sum-same n (entry t n) (λ i hi. ap (λ (x : ℕ). x - 1) (same-stars i hi));
     }
   where
-    small : n ≤ 32
+    small : n ≤ rows
     small = settled .square .small
 
     same-stars : (i : ℕ) → i < n → nums (w .stars) i ≡ nums stars′ i

@@ -6,6 +6,7 @@ use Prim.Native.Nat.{ℕ, _<_}
 use native.Mathlib.Omega.{arith}
 use lib.IntN.{ℤ}
 use lib.ListN.{length, replicate}
+use Rattle.theory.specs.Limits.{rows}
 use Rattle.theory.specs.Lists.{nums}
 use Rattle.theory.specs.Table.{entry}
 use Rattle.theory.specs.Canon.{Transversal, Canon, Simplest}
@@ -60,12 +61,12 @@ module _ {t : List ℤ} {n : ℕ} {given : List ℕ} (g : GivenAdditions t n giv
           judged = λ e. clash e refl;
         }
 
-    pub canon-given : CanonGiven t n (r .columns) (r .additions) (replicate 32 0)
+    pub canon-given : CanonGiven t n (r .columns) (r .additions) (replicate rows 0)
     canon-given = record { square = g .square; of-maxima = w .of-maxima; not-below = λ i hi. zero-start _ i; roomy = w .roomy }
 
     -- the least canon, and whether it is what was handed in
     pub reduced-canon : (least : List ℕ) (unchanged : Bool) → ((i : ℕ) → i < n → nums (r .additions) i ≡ nums start i)
-        → LoweredTo t n (r .columns) (r .additions) (replicate 32 0) least
+        → LoweredTo t n (r .columns) (r .additions) (replicate rows 0) least
         → Tells unchanged ((i : ℕ) → i < n → nums least i ≡ nums start i)
         → ReducedFrom t n given (record { found = true; canon = true; unchanged = unchanged; additions = least; rows = r .rows; columns = r .columns })
     reduced-canon least unchanged same low told =

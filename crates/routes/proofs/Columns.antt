@@ -8,6 +8,7 @@ use native.Mathlib.Omega.{arith}
 use lib.IntN.{ℤ, ℤ-discrete}
 use lib.ListN.{replicate}
 use lib.Signed.{ltZ}
+use Rattle.theory.specs.Limits.{rows}
 use Rattle.theory.specs.Lists.{nums}
 use Rattle.theory.specs.Table.{absent, Present, entry}
 use Rattle.theory.specs.Canon.{Transversal, Simplest, Greatest, Misplaced, on-absent, exceeded, sum}
@@ -45,7 +46,7 @@ module _ (n : ℕ) (a : ℕ → ℕ → ℤ) where
   well-placed {σ} g (exceeded τ t lt) = omega (arith, signed, g .greatest τ t)
 
 module _ {t : List ℤ} {n : ℕ} {column-of : List ℕ} (g : GivenColumns t n column-of) where
-  pub from-zeros : Startable t n (replicate 32 0)
+  pub from-zeros : Startable t n (replicate rows 0)
   from-zeros = record { square = g .square; entries = g .entries; handed-in = λ i hi. zero-start _ i }
 
   pub transversal-of : ((i : ℕ) → i < n → Present (entry t n i (nums column-of i))) → Transversal n (entry t n) (nums column-of)
@@ -66,7 +67,7 @@ module _ {t : List ℤ} {n : ℕ} {column-of : List ℕ} (g : GivenColumns t n c
       }
 
   -- they did not, or a place is absent: growth from zeros tells whether there is a transversal at all
-  pub raised-failed : {w : Grown} (l : List ℕ) → GrownFrom t n (replicate 32 0) w
+  pub raised-failed : {w : Grown} (l : List ℕ) → GrownFrom t n (replicate rows 0) w
       → (Simplest n (entry t n) (nums (w .additions)) → Greatest n (entry t n) (nums (w .columns)) → Misplaced n (entry t n) (nums column-of))
       → RaisedFrom t n column-of (record { found = w .found; greatest = false; additions = l })
   raised-failed {w} l grown wrong =

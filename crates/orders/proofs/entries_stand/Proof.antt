@@ -48,7 +48,7 @@ loop-again c =
     let l = c .before .before .before .before .loop in
     let t = c .before .before .before .before .before .args .table .now in (
       search needs,
-      entries-more 100 t (l .k) (l .inv .1)
+      entries-more order t (l .k) (l .inv .1)
           ((simp (back w16 (getD t (l .k) (pos 0)) (c .before .before .v .given)) at (c .before .entry-stands .ensures)) .holds
           (not-false _ (c .if1 .left))),
     )

@@ -5,6 +5,7 @@ use lib.ListN.{length}
 use mir.Syntax.{w32}
 use mir.Val.{SFits}
 use mir.Facts.{toZ-ofZ}
+use Rattle.theory.specs.Limits.{rows}
 use Rattle.outcome.proofs.Delivery.{delivery}
 use Rattle.outcome.proofs.delivered.Statement.{statement}
 use Rattle.outcome.proofs.delivered.Tie as tie
@@ -28,7 +29,7 @@ same-length-3 c = search needs
 sum-fits : (c : tie.After-completed) → SFits w32 (c .completed .result .sum)
 sum-fits c = search needs
 
-wide : (c : tie.After-completed) → (length (c .completed .result .additions) ≡ 32) × (length (c .completed .result .stars) ≡ 32) × (length (c .completed .result .heads) ≡ 32)
+wide : (c : tie.After-completed) → (length (c .completed .result .additions) ≡ rows) × (length (c .completed .result .stars) ≡ rows) × (length (c .completed .result .heads) ≡ rows)
 wide c = search needs
 
 returns : tie.Need-returns

@@ -1,33 +1,29 @@
 -- A gap in 32 bits, the nearer of two ways, the lesser of two gaps. Assumes nothing.
 use mathlib.Core.Path.{_≡_, refl}
 use mathlib.Core.Logic.{inl, inr}
-use Prim.Native.Nat.{ℕ, _+_, _≤_, _<_}
+use Prim.Native.Nat.{ℕ, _+_, _≤_, _<_, _-_, _*_}
 use native.Mathlib.Omega.{arith}
-use lib.Dec.{T}
-use lib.IntN.{ℤ, pos, _+ℤ_, _-ℤ_, natAbs}
-use lib.Signed.{nonNeg}
+use lib.IntN.{ℤ, pos, _+ℤ_}
+use lib.Signed.{_≤ℤ_}
 use mir.Syntax.{w16, w32}
-use mir.Val.{SFits, Fits, toZ, ofZ}
+use mir.Val.{SFits, toZ, ofZ}
 use mir.Facts.{toZ-ofZ}
 use Rattle.theory.specs.Table.{absent, Present}
-use Rattle.theory.proofs.Signed.{dn, plus, minus, signed, mag-up, mag-dn, ud-nonNeg, natAbs-is, dn-none}
+use Rattle.theory.proofs.Signed.{plus, signed, mag-up}
 use Rattle.growth.specs.Steps.{none, Fitting, Nearer, Lesser}
 use Rattle.growth.specs.declared.Least.{Least}
+use Rattle.orders.specs.Places.{room}
 
--- ---- head less raised order, which is x
-module _ (v h x : ℤ) (l : ℕ) (fv : SFits w16 v) (f : Fitting v l h) (p : Present v) (is : x ≡ v +ℤ pos l) where
-  pub gap-fits : SFits w32 (h -ℤ x)
-  gap-fits = omega (arith, signed, f .head, mag-up h, mag-dn h, plus v (pos l), minus h x, f .addition)
+-- ---- head less order and addition; r is what the order lacks of the head
+module _ (v h : ℤ) (l : ℕ) (f : Fitting v l h) (p : Present v) where
+  pub gap-asks : (v ≤ℤ h) × (h ≤ℤ pos (2 * room))
+  gap-asks = (omega (arith, signed, f .below p, plus v (pos l)), omega (arith, signed, f .head, mag-up h))
 
-  gap-dn : dn (h -ℤ x) ≡ 0
-  gap-dn = dn-none (h -ℤ x) (omega (arith, signed, f .below p, plus v (pos l), minus h x))
+  pub gap-least : (r : ℕ) → v +ℤ pos r ≡ h → l ≤ r
+  gap-least r e = omega (arith, signed, f .below p, plus v (pos l), plus v (pos r))
 
-  pub gap-cast : T (nonNeg (h -ℤ x)) × Fits w32 (natAbs (h -ℤ x))
-  gap-cast = (ud-nonNeg (h -ℤ x) (omega (arith, gap-dn)), omega (arith, signed, natAbs-is (h -ℤ x), gap-dn, gap-fits))
-
-  pub gap-is : v +ℤ pos (l + natAbs (h -ℤ x)) ≡ h
-  gap-is =
-      omega (arith, signed, natAbs-is (h -ℤ x), gap-dn, plus v (pos l), minus h x, plus v (pos (l + natAbs (h -ℤ x))))
+  pub gap-is : (r : ℕ) → v +ℤ pos r ≡ h → v +ℤ pos (l + (r - l)) ≡ h
+  gap-is r e = let s : l + (r - l) ≡ r = omega (arith, gap-least r e) in rw s e
 
 -- a gap of a place is below `none`
 pub gap-small : {v h : ℤ} {l : ℕ} → SFits w16 v → Fitting v l h → (g : ℕ) → v +ℤ pos (l + g) ≡ h → g < none

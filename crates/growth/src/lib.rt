@@ -30,7 +30,7 @@ fn gap(order: i16, addition: u32, head: i32) -> u32
     requires { ⌜ Fitting order addition head × Present order ⌝ }
     ensures { λ r. ⌜ order +ℤ pos (addition + r) ≡ head ⌝ }
 {
-    (head - orders::raise(order, addition)) as u32
+    orders::excess(head, order) - addition
 }
 
 // A way into a column: its gap, and the row that gives it.

@@ -6,6 +6,7 @@ ghost use Rattle.orders.specs.Places.{room, Square};
 ghost use Rattle.lowering.specs.Descent.{NotBelow, LeastSlack, Spare, Fallen, Pull, PulledAt, CanonGiven, LoweredTo};
 use orders::ABSENT;
 use orders::ROWS;
+use orders::excess;
 use orders::place;
 use orders::raise;
 
@@ -62,11 +63,10 @@ fn pull(other: i16, addition: u32, order: i16) -> u32
     ensures { λ r. ⌜ Pull other addition order r ⌝ }
 {
     let raised = raise(other, addition);
-    let own = order as i32;
-    if raised <= own {
+    if raised <= order as i32 {
         return 0;
     }
-    (raised - own) as u32
+    excess(raised, order)
 }
 
 // The floors, once row k is settled: no row may fall below what keeps its own star a maximum beside row k. Rules out a floor

@@ -119,3 +119,11 @@ module _ (v : ℤ) (l : ℕ) (top : Top) where
         other = λ q. le;
         one = λ q. inr e;
       }
+
+-- a column in which row i is present has a head
+pub top-head : {t : List ℤ} {n j i : ℕ} {l : List ℕ} {r : Top} → i < n → Present (entry t n i j) → TopOf t n n l j r → Head n (entry t n) (nums l) j (r .head)
+top-head {t} {n} {j} {i} {l} {r} hi p o = go (r .present) refl
+  where
+    go : (b : Bool) → r .present ≡ b → Head n (entry t n) (nums l) j (r .head)
+    go true e = o .head e
+    go false e = absurd (o .empty e i hi p)

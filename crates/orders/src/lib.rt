@@ -5,8 +5,9 @@ ghost use Rattle.orders.specs.Refusals.{numberOf};
 ghost use Rattle.orders.specs.Tested.{Tells};
 ghost use Rattle.orders.specs.Places.{room, Square, Roomy, TopOf, Taller};
 ghost use Rattle.theory.specs.Table.{entry};
-ghost use Prim.Native.Nat.{_≤_, _<_};
+ghost use Prim.Native.Nat.{_*_, _≤_, _<_};
 ghost use lib.IntN.{pos, _+ℤ_};
+ghost use lib.Signed.{_≤ℤ_};
 
 // Document 01's limits.
 pub const ROWS: usize = 32;
@@ -99,6 +100,14 @@ pub fn raise(order: i16, addition: u32) -> i32
     ensures { λ r. ⌜ r ≡ order +ℤ pos addition ⌝ }
 {
     order as i32 + addition as i32
+}
+
+// How far a height is above an order that does not pass it. Rules out every other number.
+pub fn excess(height: i32, order: i16) -> u32
+    requires { ⌜ (order ≤ℤ height) × (height ≤ℤ pos (2 * room)) ⌝ }
+    ensures { λ r. ⌜ order +ℤ pos r ≡ height ⌝ }
+{
+    (height - order as i32) as u32
 }
 
 // Is an order present and, raised, the head given? Rules out an absent place taken for an order, and another head.

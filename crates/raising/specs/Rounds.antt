@@ -3,20 +3,13 @@
 use mathlib.Core.Path.{_≡_}
 use mathlib.Core.Bool.{Bool, true, false}
 use mathlib.Core.List.{List}
-use mathlib.Core.Logic.{_⊎_}
 use Prim.Native.Nat.{ℕ, _+_, _*_, _≤_, _<_}
-use lib.IntN.{ℤ, pos, _+ℤ_}
+use lib.IntN.{ℤ}
 use lib.Signed.{_≤ℤ_}
 use Rattle.theory.specs.Lists.{nums}
 use Rattle.theory.specs.Table.{Present}
 use Rattle.theory.specs.Canon.{raised, OfMaxima, AtLeast}
 use Rattle.orders.specs.Places.{room}
-
--- r is the larger of a height and the order v raised by l, where v is present
-pub record Higher (v : ℤ) (l : ℕ) (height r : ℤ) : Type 0 where
-  pub this : Present v → (v +ℤ pos l) ≤ℤ r
-  pub other : height ≤ℤ r
-  pub one : (r ≡ height) ⊎ (Present v × (r ≡ v +ℤ pos l))
 
 -- the first k rows of a round from the additions l, of a table a whose orders are within the limit: rows are raised and never
 -- lowered; each of the k is raised to what the others had in its column before the round; no row passes a canon's addition; k rows

@@ -1,16 +1,13 @@
-use orders::ABSENT;
 use orders::ROWS;
-ghost use mathlib.Core.Path.{_≡_};
-ghost use Prim.Native.Nat.{_*_, _≤_, _<_};
+ghost use Prim.Native.Nat.{_<_};
 ghost use lib.IntN.{pos, _+ℤ_};
-ghost use lib.Signed.{_≤ℤ_};
 ghost use Rattle.theory.specs.Limits.{order};
 ghost use Rattle.theory.specs.Lists.{nums};
 ghost use Rattle.theory.specs.Table.{Present, entry, Entries};
 ghost use Rattle.theory.specs.Canon.{Transversal, Head};
-ghost use Rattle.orders.specs.Places.{room, Square, Roomy};
+ghost use Rattle.orders.specs.Places.{Square, Roomy};
 ghost use Rattle.raising.specs.Climbed.{Climbed};
-ghost use Rattle.raising.specs.Rounds.{Higher, Round, Ample};
+ghost use Rattle.raising.specs.Rounds.{Round, Ample};
 
 // How far the rows are raised: whether the last round changed nothing, and the additions.
 pub struct Raising {
@@ -18,46 +15,16 @@ pub struct Raising {
     pub additions: [u32; ROWS],
 }
 
-// The larger of a height and one more order of the column, raised; an absent place is passed over.
-// Rules out the smaller of the two, an absent place taken for an order, and a height of no row.
-fn higher(height: i32, order: i16, addition: u32) -> i32
-    requires { ⌜ addition ≤ room ⌝ }
-    ensures { λ r. ⌜ Higher order addition height r ⌝ }
-{
-    if order == ABSENT {
-        return height;
-    }
-    let raised = orders::raise(order, addition);
-    if raised <= height {
-        return height;
-    }
-    raised
-}
-
-// The addition that raises an order to a height that it does not pass.
-// Rules out every other addition.
-fn excess(height: i32, order: i16) -> u32
-    requires { ⌜ (order ≤ℤ height) × (height ≤ℤ pos (2 * room)) ⌝ }
-    ensures { λ r. ⌜ order +ℤ pos r ≡ height ⌝ }
-{
-    (height - order as i32) as u32
-}
-
 // The addition that raises row i's order in a column to the column's head.
 // Rules out one that leaves the order below another, and one that lifts it above all.
-fn pull(table: &[i16], n: usize, additions: &[u32; ROWS], column: usize, i: usize) -> u32
+fn wanted(table: &[i16], n: usize, additions: &[u32; ROWS], column: usize, i: usize) -> u32
     requires { ⌜ Square (now table) n × Entries order (now table) × Roomy n (now additions) × (column < n) × (i < n) × Present (entry (now table) n i column) ⌝ }
     ensures { λ r. ⌜ Head n (entry (now (table .entry)) n) (nums (now (additions .entry))) column (entry (now (table .entry)) n i column +ℤ pos r) ⌝ }
 {
     let own = orders::place(table, n, i, column);
-    let mut height = orders::raise(own, additions[i]);
-    let mut k = 0;
-    while k < n {
-        let order = orders::place(table, n, k, column);
-        height = higher(height, order, additions[k]);
-        k += 1;
-    }
-    excess(height, own)
+    let top = orders::head(table, n, additions, column);
+    let height = top.head;
+    orders::excess(height, own)
 }
 
 // One round: each row in turn is raised to the head of the column of its starred order, with the rows before it as they now are.
@@ -71,9 +38,9 @@ fn round(n: usize, table: &[i16], column_of: &[usize; ROWS], additions: [u32; RO
     let mut ended = true;
     let mut i = 0;
     while i < n {
-        let wanted = pull(table, n, &next, column_of[i], i);
-        if next[i] < wanted {
-            next[i] = wanted;
+        let addition = wanted(table, n, &next, column_of[i], i);
+        if next[i] < addition {
+            next[i] = addition;
             ended = false;
         }
         i += 1;

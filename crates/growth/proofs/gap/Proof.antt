@@ -1,40 +1,23 @@
--- Head less raised order, which does not exceed it. Assumes nothing.
-use borrow.Author.Needs.{needs, sfits-of}
-use lib.IntN.{_-ℤ_}
-use mir.Syntax.{w16, w32}
-use mir.Val.{SFits}
+-- Head less order and addition, which do not exceed it. Assumes nothing.
+use mathlib.Core.Path.{_≡_}
+use lib.IntN.{pos, _+ℤ_}
 use mir.Facts.{toZ-ofZ}
-use Rattle.growth.proofs.Gaps.{gap-fits, gap-cast, gap-is}
+use Rattle.growth.proofs.Gaps.{gap-asks, gap-least, gap-is}
 use Rattle.growth.proofs.gap.Statement.{statement}
 use Rattle.growth.proofs.gap.Tie as tie
 
-raise-requires : tie.Need-raise-requires
-raise-requires c κs = search needs
+excess-requires : tie.Need-excess-requires
+excess-requires c κs = rw (toZ-ofZ (c .fits .order), toZ-ofZ (c .fits .head)) (gap-asks _ _ _ (c .pre .0) (c .pre .1))
+
+-- what the order lacks of the head, in terms of what was handed in
+lacks : (c : tie.After-excess) → c .before .args .order +ℤ pos (c .excess .result) ≡ c .before .args .head
+lacks c = simp (toZ-ofZ (c .before .fits .order), toZ-ofZ (c .before .fits .head)) at (c .excess .ensures)
 
 sub-result : tie.Need-sub-result
-sub-result c =
-    let f : SFits w16 (c .before .args .order) = c .before .fits .order in
-    let g : SFits w32 (c .before .args .head) = c .before .fits .head in
-    let k : SFits w32 (c .raise .result) = sfits-of (c .raise .ok) in
-    simp (toZ-ofZ) (gap-fits _ _ _ _ f (c .before .pre .0) (c .before .pre .1) (simp (toZ-ofZ) at (c .raise .ensures)))
-
-cast-result : tie.Need-cast-result
-cast-result c =
-    let f : SFits w16 (c .before .args .order) = c .before .fits .order in
-    let g : SFits w32 (c .before .args .head) = c .before .fits .head in
-    let k : SFits w32 (c .raise .result) = sfits-of (c .raise .ok) in
-    let e = simp (toZ-ofZ) at (c .raise .ensures) in
-    let q : SFits w32 (c .before .args .head -ℤ c .raise .result) = gap-fits _ _ _ _ f (c .before .pre .0) (c .before .pre .1) e in
-    simp (toZ-ofZ) (gap-cast _ _ _ _ f (c .before .pre .0) (c .before .pre .1) e)
+sub-result c = gap-least _ _ _ (c .before .pre .0) (c .before .pre .1) _ (lacks c)
 
 returns : tie.Need-returns
-returns c =
-    let f : SFits w16 (c .before .args .order) = c .before .fits .order in
-    let g : SFits w32 (c .before .args .head) = c .before .fits .head in
-    let k : SFits w32 (c .raise .result) = sfits-of (c .raise .ok) in
-    let e = simp (toZ-ofZ) at (c .raise .ensures) in
-    let q : SFits w32 (c .before .args .head -ℤ c .raise .result) = gap-fits _ _ _ _ f (c .before .pre .0) (c .before .pre .1) e in
-    simp (toZ-ofZ) (gap-is _ _ _ _ f (c .before .pre .0) (c .before .pre .1) e)
+returns c = gap-is _ _ _ (c .before .pre .0) (c .before .pre .1) _ (lacks c)
 
 pub gap-spec : {M : Type 1} → statement M
-gap-spec = tie.close (tie.spec raise-requires sub-result cast-result returns)
+gap-spec = tie.close (tie.spec excess-requires sub-result returns)

@@ -23,14 +23,14 @@ abbrev μ-loop : tie.MeasureT-loop
 loop-holds : tie.Need-loop-holds Inv-loop μ-loop
 loop-holds c = (omega arith, search needs, round-none _ _ _ _ _)
 
-mul-pull : tie.Need-mul-pull Inv-loop μ-loop
-mul-pull c = search needs
+mul-wanted : tie.Need-mul-wanted Inv-loop μ-loop
+mul-wanted c = search needs
 
-element-copy-out-pull : tie.Need-element-copy-out-pull Inv-loop μ-loop
-element-copy-out-pull c = search needs
+element-copy-out-wanted : tie.Need-element-copy-out-wanted Inv-loop μ-loop
+element-copy-out-wanted c = search needs
 
-pull-requires : tie.Need-pull-requires Inv-loop μ-loop
-pull-requires c κs =
+wanted-requires : tie.Need-wanted-requires Inv-loop μ-loop
+wanted-requires c κs =
     let s = c .before .before .before .before in
     let l = c .before .before .before .loop in
     let hi : l .i < s .args .n = search needs in
@@ -60,7 +60,7 @@ loop-again c =
     let l = c .before .before .before .before .before .loop in
     let hi : l .i < s .args .n = search needs in
     let w = within order (s .args .n) (s .args .table .now) (s .pre .0 .square) (s .pre .1) in
-    let p = c .before .pull in
+    let p = c .before .wanted in
     elim (c .if1 .came) [
       | inl v ↦ (
         search needs,
@@ -84,9 +84,9 @@ round-spec =
     Inv-loop
     μ-loop
     loop-holds
-    mul-pull
-    element-copy-out-pull
-    pull-requires
+    mul-wanted
+    element-copy-out-wanted
+    wanted-requires
     mul-if1
     array-read-if1
     mul-next

@@ -1,13 +1,18 @@
 -- A difference of a height and an order that does not pass it, as an addition. Assumes nothing.
 use native.Mathlib.Omega.{arith}
-use lib.IntN.{_-ℤ_}
+use lib.IntN.{_-ℤ_, ℤ, pos, _+ℤ_, natAbs}
+use lib.Signed.{_≤ℤ_}
 use mir.Syntax.{w16, w32}
 use mir.Val.{SFits}
 use mir.Facts.{toZ-ofZ, sfits-widen, sfits-toZ, fits-ofZ, fits-natAbs}
-use Rattle.theory.proofs.Signed.{minus, signed, ud-nonNeg}
-use Rattle.raising.proofs.Heights.{excess-raises}
-use Rattle.raising.proofs.excess.Statement.{statement}
-use Rattle.raising.proofs.excess.Tie as tie
+use Rattle.theory.proofs.Signed.{minus, signed, ud-nonNeg, plus, natAbs-is, dn-none}
+use Rattle.orders.proofs.excess.Statement.{statement}
+use mathlib.Core.Path.{_≡_}
+use Rattle.orders.proofs.excess.Tie as tie
+
+-- an order raised by what a height has above it comes to the height
+excess-raises : (h v : ℤ) → v ≤ℤ h → v +ℤ pos (natAbs (h -ℤ v)) ≡ h
+excess-raises h v le = omega (arith, signed, minus h v, natAbs-is (h -ℤ v), dn-none (h -ℤ v) (omega (arith, signed, minus h v)), plus v (pos (natAbs (h -ℤ v))))
 
 -- the difference fits 32 bits
 fit : (c : tie.Start) → SFits w32 (c .args .height -ℤ c .args .order)

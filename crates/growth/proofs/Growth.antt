@@ -9,7 +9,7 @@ use lib.Dec.{T}
 use lib.IntN.{ℤ, pos, _+ℤ_}
 use lib.Signed.{_≤ℤ_}
 use Rattle.theory.specs.Table.{Present}
-use Rattle.theory.specs.Canon.{Transversal, OfMaxima, AtLeast}
+use Rattle.theory.specs.Canon.{Transversal, OfMaxima, AtMost}
 use Rattle.theory.proofs.Pigeonhole.{closed-onto, dec-flag, dec-both}
 use Rattle.theory.proofs.Signed.{plus, signed}
 use Rattle.growth.specs.Standing.{Tight, Marking, Standing}
@@ -86,8 +86,8 @@ module _ {n : ℕ} {a : ℕ → ℕ → ℤ} {s : ℕ} {l : ℕ → ℕ} {h : �
 module _ {n : ℕ} {a : ℕ → ℕ → ℤ} {start : ℕ → ℕ} {s : ℕ} {l : ℕ → ℕ} {h : ℕ → ℤ} {ρ κ : ℕ → ℕ} {tree reached : ℕ → Bool} {giver : ℕ → ℕ}
     (st : Standing n a start s l h ρ κ) (t : Tree n a s l h ρ tree reached giver) (δ : ℕ)
     (clear : (i j : ℕ) → i < n → j < n → T (tree i) → reached j ≡ false → Present (a i j) → (a i j +ℤ pos (l i + δ)) ≤ℤ h j)
-    (m σ : ℕ → ℕ) (of : OfMaxima n a m σ) (from : AtLeast n a start m) where
-  low : AtLeast n a l m
+    (m σ : ℕ → ℕ) (of : OfMaxima n a m σ) (from : AtMost n start m) where
+  low : AtMost n l m
   low = st .least m (record { columns = σ; of-maxima = of }) from
 
   -- the canon's head of a column is not below h

@@ -9,7 +9,7 @@ use lib.Signed.{_≤ℤ_}
 use Rattle.theory.specs.Limits.{rows, order, handed}
 use Rattle.theory.specs.Lists.{nums, ints}
 use Rattle.theory.specs.Table.{Present, entry, WithinLimit}
-use Rattle.theory.specs.Canon.{Transversal, raised, Canon, AtLeast, Head, Heads}
+use Rattle.theory.specs.Canon.{Transversal, raised, Canon, AtMost, Head, Heads}
 use Rattle.orders.specs.Places.{Square}
 use Rattle.growth.specs.Steps.{Long}
 
@@ -40,8 +40,8 @@ module _ (n : ℕ) (a : ℕ → ℕ → ℤ) where
     pub marking : Marking s l h ρ κ
     pub under : (i j : ℕ) → i < n → j < n → Present (a i j) → raised n a l i j ≤ℤ h j
     pub first : (j : ℕ) → j < n → n ≤ ρ j → Head n a start j (h j)
-    pub from-start : AtLeast n a start l
-    pub least : (m : ℕ → ℕ) → Canon n a m → AtLeast n a start m → AtLeast n a l m
+    pub from-start : AtMost n start l
+    pub least : (m : ℕ → ℕ) → Canon n a m → AtMost n start m → AtMost n l m
 
   -- The way back from the unmarked column `end` to row s: its giver is a row of the tree and tight there, and so is the giver of
   -- the column of each row of the tree but s. A giver comes before the row of its column in the order in which rows joined.

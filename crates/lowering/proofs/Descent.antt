@@ -11,13 +11,13 @@ use lib.ListN.{length, set, length-set, replicate, length-replicate}
 use Rattle.theory.specs.Limits.{rows}
 use Rattle.theory.specs.Lists.{nums, flags}
 use Rattle.theory.specs.Table.{Present, entry}
-use Rattle.theory.specs.Canon.{OfMaxima, Canon, AtLeast, LeastFrom}
+use Rattle.theory.specs.Canon.{OfMaxima, Canon, AtMost, LeastFrom}
 use Rattle.theory.proofs.Signed.{up, dn, raised-le-ud, ud-raised-le}
 use Rattle.theory.proofs.Duality.{maxima-everywhere}
 use Rattle.orders.specs.Places.{room}
 use Rattle.orders.proofs.Entries.{clash}
 use Rattle.orders.proofs.Flags.{all-unset, set-flag}
-use Rattle.lowering.specs.Descent.{NotBelow, LeastSlack, Spare, Fallen, PulledAt, CanonGiven, LoweredTo}
+use Rattle.lowering.specs.Descent.{LeastSlack, Spare, Fallen, PulledAt, CanonGiven, LoweredTo}
 
 -- ---- one row of the fall
 pub fallen-open : {l : ℕ → ℕ} {settled : ℕ → Bool} {d i v : ℕ} → settled i ≡ false → v + d ≡ l i → Fallen l settled d i v
@@ -32,13 +32,13 @@ module _ (n : ℕ) (a : ℕ → ℕ → ℤ) (σ start : ℕ → ℕ) where
   -- come down to its floor, and keeps the others from falling below theirs; no canon from the start is below the floors.
   pub record Falling (l floors : ℕ → ℕ) (settled : ℕ → Bool) : Type 0 where
     pub of-maxima : OfMaxima n a l σ
-    pub start-below : (i : ℕ) → i < n → start i ≤ floors i
-    pub floors-below : (i : ℕ) → i < n → floors i ≤ l i
+    pub start-below : AtMost n start floors
+    pub floors-below : AtMost n floors l
     pub down : (i : ℕ) → i < n → settled i ≡ true → l i ≤ floors i
     pub held : (k i : ℕ) → k < n → i < n → settled k ≡ true → Present (a k (σ i)) → (a k (σ i) +ℤ pos (l k)) ≤ℤ (a i (σ i) +ℤ pos (floors i))
-    pub under : (m : ℕ → ℕ) → Canon n a m → AtLeast n a start m → AtLeast n a floors m
+    pub under : (m : ℕ → ℕ) → Canon n a m → AtMost n start m → AtMost n floors m
 
-  pub falling-start : (l : ℕ → ℕ) (settled : ℕ → Bool) → OfMaxima n a l σ → AtLeast n a start l → ((i : ℕ) → settled i ≡ false) → Falling l start settled
+  pub falling-start : (l : ℕ → ℕ) (settled : ℕ → Bool) → OfMaxima n a l σ → AtMost n start l → ((i : ℕ) → settled i ≡ false) → Falling l start settled
   falling-start l settled c above none =
       record {
         of-maxima = c;
@@ -65,14 +65,14 @@ module _ (n : ℕ) (a : ℕ → ℕ → ℤ) (σ start : ℕ → ℕ) where
       (fallen : (i : ℕ) → i < n → Fallen l settled d i (l′ i))
       (marked : (i : ℕ) → i < n → settled′ i ≡ true → (i ≡ u) ⊎ (settled i ≡ true))
       (pulled : (i : ℕ) → i < n → PulledAt a σ floors u (l′ u) i (floors′ i)) where
-    not-higher : (i : ℕ) → i < n → l′ i ≤ l i
+    not-higher : AtMost n l′ l
     not-higher i hi = go (settled i) refl
       where
         go : (b : Bool) → settled i ≡ b → l′ i ≤ l i
         go true e = omega (arith, fallen i hi .stays e)
         go false e = omega (arith, fallen i hi .falls e)
 
-    not-lower : (i : ℕ) → i < n → floors i ≤ l′ i
+    not-lower : AtMost n floors l′
     not-lower i hi = go (settled i) refl
       where
         go : (b : Bool) → settled i ≡ b → floors i ≤ l′ i
@@ -104,7 +104,7 @@ module _ (n : ℕ) (a : ℕ → ℕ → ℤ) (σ start : ℕ → ℕ) where
           maximum = λ i hi. record { present = f .of-maxima .transversal .present i hi; unexceeded = λ k hk p. still i k hi hk p };
         }
 
-    falling-under : (m : ℕ → ℕ) → Canon n a m → AtLeast n a start m → AtLeast n a floors′ m
+    falling-under : (m : ℕ → ℕ) → Canon n a m → AtMost n start m → AtMost n floors′ m
     falling-under m cm from i hi =
         pulled i hi .least (m i) (f .under m cm from i hi)
         (λ p. ud-raised-le (a u (σ i)) (a i (σ i)) (l′ u) (m i)
@@ -148,7 +148,7 @@ pub record Going (t : List ℤ) (n : ℕ) (columns canon floors additions least 
   pub falling : Falling n (entry t n) (nums columns) (nums floors) (nums additions) (nums least) (flags settled)
   pub next : LeastSlack n n additions least settled k
   pub long : length settled ≡ rows
-  pub not-above : NotBelow n additions canon
+  pub not-above : AtMost n (nums additions) (nums canon)
 
 module _ {t : List ℤ} {n : ℕ} {columns canon floors : List ℕ} (g : CanonGiven t n columns canon floors) where
   pub going-start : {k : ℕ} → LeastSlack n n canon floors (replicate rows false) k → Going t n columns canon floors canon floors (replicate rows false) k
@@ -169,7 +169,7 @@ module _ {t : List ℤ} {n : ℕ} {columns canon floors : List ℕ} (g : CanonGi
     going-spare i hi e = omega (arith, go .next .least hk i hi e)
 
     module _ (additions′ : List ℕ) (fallen : (i : ℕ) → i < n → Fallen (nums additions) (flags settled) (nums additions k - nums least k) i (nums additions′ i)) where
-      pub going-lower : NotBelow n additions′ additions
+      pub going-lower : AtMost n (nums additions′) (nums additions)
       going-lower i hi = lower (flags settled i) refl
         where
           lower : (b : Bool) → flags settled i ≡ b → nums additions′ i ≤ nums additions i

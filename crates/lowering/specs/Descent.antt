@@ -8,12 +8,8 @@ use lib.IntN.{ℤ, pos, _+ℤ_}
 use lib.Signed.{_≤ℤ_}
 use Rattle.theory.specs.Lists.{nums, flags}
 use Rattle.theory.specs.Table.{Present, entry}
-use Rattle.theory.specs.Canon.{OfMaxima, LeastFrom}
+use Rattle.theory.specs.Canon.{AtMost, OfMaxima, LeastFrom}
 use Rattle.orders.specs.Places.{Square, Roomy}
-
--- no addition of the first n rows is below its floor
-abbrev pub NotBelow : ℕ → List ℕ → List ℕ → Type 0
-NotBelow n floors l = (i : ℕ) → i < n → nums floors i ≤ nums l i
 
 -- r is, of the first k rows, the unsettled one with the least amount to fall to its floor, or n where all of them are settled
 pub record LeastSlack (n k : ℕ) (l floors : List ℕ) (settled : List Bool) (r : ℕ) : Type 0 where
@@ -47,11 +43,11 @@ pub record PulledAt (a : ℕ → ℕ → ℤ) (column-of floors : ℕ → ℕ) (
 pub record CanonGiven (t : List ℤ) (n : ℕ) (column-of canon floors : List ℕ) : Type 0 where
   pub square : Square t n
   pub of-maxima : OfMaxima n (entry t n) (nums canon) (nums column-of)
-  pub not-below : NotBelow n floors canon
+  pub not-below : AtMost n (nums floors) (nums canon)
   pub roomy : Roomy n canon
 
 -- what comes out: the least canon from the floors, with the same transversal
 pub record LoweredTo (t : List ℤ) (n : ℕ) (column-of canon floors r : List ℕ) : Type 0 where
   pub least-from : LeastFrom n (entry t n) (nums floors) (nums r)
   pub of-maxima : OfMaxima n (entry t n) (nums r) (nums column-of)
-  pub not-above : NotBelow n r canon
+  pub not-above : AtMost n (nums r) (nums canon)

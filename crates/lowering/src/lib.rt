@@ -2,8 +2,9 @@ ghost use Prim.Native.Nat.{ℕ, _≤_, _<_};
 ghost use Rattle.theory.specs.Limits.{rows};
 ghost use Rattle.theory.specs.Lists.{nums, flags};
 ghost use Rattle.theory.specs.Table.{entry};
+ghost use Rattle.theory.specs.Canon.{AtMost};
 ghost use Rattle.orders.specs.Places.{room, Square};
-ghost use Rattle.lowering.specs.Descent.{NotBelow, LeastSlack, Spare, Fallen, Pull, PulledAt, CanonGiven, LoweredTo};
+ghost use Rattle.lowering.specs.Descent.{LeastSlack, Spare, Fallen, Pull, PulledAt, CanonGiven, LoweredTo};
 use orders::ABSENT;
 use orders::ROWS;
 use orders::excess;
@@ -18,7 +19,7 @@ fn least_slack(
     floors: &[u32; ROWS],
     settled: &[bool; ROWS],
 ) -> usize
-    requires { ⌜ (n ≤ rows) × NotBelow n (now floors) (now additions) ⌝ }
+    requires { ⌜ (n ≤ rows) × AtMost n (nums (now floors)) (nums (now additions)) ⌝ }
     ensures { λ r. ⌜ LeastSlack n n (now (additions .entry)) (now (floors .entry)) (now (settled .entry)) r ⌝ }
 {
     let mut best = n;

@@ -13,7 +13,7 @@ use Rattle.theory.specs.Totals.{totalℕ}
 use Rattle.theory.specs.Limits.{rows, order}
 use Rattle.theory.specs.Lists.{nums}
 use Rattle.theory.specs.Table.{entry}
-use Rattle.theory.specs.Canon.{Transversal, OfMaxima, AtLeast, Simplest, Greatest}
+use Rattle.theory.specs.Canon.{Transversal, OfMaxima, AtMost, Simplest, Greatest}
 use Rattle.theory.proofs.Pigeonhole.{choose, choose-yes, choose-no, dec-both}
 use Rattle.theory.proofs.Totals.{total-ge, total-lt, total-bound}
 use Rattle.theory.proofs.Signed.{raised-le-ud}
@@ -37,13 +37,13 @@ height limit n r = r * (n * (2 * limit))
 -- stars, and all final or more than r of them
 pub record Standing (limit n : ℕ) (a : ℕ → ℕ → ℤ) (σ : ℕ → ℕ) (r : ℕ) (l : ℕ → ℕ) : Type 0 where
   pub bounded : (i : ℕ) → i < n → l i ≤ height limit n r
-  pub below : (m : ℕ → ℕ) → OfMaxima n a m σ → AtLeast n a l m
+  pub below : (m : ℕ → ℕ) → OfMaxima n a m σ → AtMost n l m
   pub progress : (f : ℕ → ℕ) → Simplest n a f → OfMaxima n a f σ → ((i : ℕ) → i < n → l i ≡ f i) ⊎ (r < totalℕ n (final f l))
 
 -- the same where a round ends, and whether it has changed nothing
 pub record After (limit n : ℕ) (a : ℕ → ℕ → ℤ) (σ : ℕ → ℕ) (r : ℕ) (ended : Bool) (l : ℕ → ℕ) : Type 0 where
   pub bounded : (i : ℕ) → i < n → l i ≤ height limit n r
-  pub below : (m : ℕ → ℕ) → OfMaxima n a m σ → AtLeast n a l m
+  pub below : (m : ℕ → ℕ) → OfMaxima n a m σ → AtMost n l m
   pub done : ended ≡ true → OfMaxima n a l σ
   pub more : ended ≡ false → (f : ℕ → ℕ) → Simplest n a f → OfMaxima n a f σ → r < totalℕ n (final f l)
 

@@ -13,7 +13,7 @@ use lib.Seq.{getD-set-same, getD-set-other}
 use lib.Signed.{_≤ℤ_}
 use Rattle.theory.specs.Lists.{nums}
 use Rattle.theory.specs.Table.{Present, WithinLimit}
-use Rattle.theory.specs.Canon.{Transversal, raised, OfMaxima, AtLeast, Head}
+use Rattle.theory.specs.Canon.{Transversal, raised, OfMaxima, AtMost, Head}
 use Rattle.theory.proofs.Signed.{up, dn, signed, raised-le-ud, ud-raised-le, raised-eq-ud}
 use Rattle.theory.proofs.Duality.{under-head}
 use Rattle.orders.specs.Places.{room}
@@ -59,7 +59,7 @@ module _ (limit n : ℕ) (a : ℕ → ℕ → ℤ) (σ l : ℕ → ℕ) (k : ℕ
     tied : up (a k (σ k)) + v + dn (a (h .row) (σ k)) ≡ up (a (h .row) (σ k)) + next (h .row) + dn (a k (σ k))
     tied = raised-eq-ud (a k (σ k)) (a (h .row) (σ k)) v (next (h .row)) (h .is)
 
-    not-past : (m : ℕ → ℕ) → OfMaxima n a m σ → AtLeast n a next m → v ≤ m k
+    not-past : (m : ℕ → ℕ) → OfMaxima n a m σ → AtMost n next m → v ≤ m k
     not-past m c le =
         omega (
           arith,
@@ -105,7 +105,7 @@ module _ (limit n : ℕ) (a : ℕ → ℕ → ℤ) (σ l : ℕ → ℕ) (k : ℕ
                 (omega (arith, put .here, r .grows x hx, raised-le-ud (a x (σ k)) (a k (σ k)) (next x) v (under-head n a h x hx p)))
         reach i x hi hx p (no ne) = rw (put .elsewhere i (omega arith) ne) (r .reaches i x (omega arith) hx p)
 
-        under : (m : ℕ → ℕ) → OfMaxima n a m σ → AtLeast n a next m → (i : ℕ) → i < n → Dec (i ≡ k) → next′ i ≤ m i
+        under : (m : ℕ → ℕ) → OfMaxima n a m σ → AtMost n next m → (i : ℕ) → i < n → Dec (i ≡ k) → next′ i ≤ m i
         under m c le i hi (yes q) = rw q (omega (arith, put .here, not-past m c le))
         under m c le i hi (no ne) = omega (arith, put .elsewhere i hi ne, le i hi)
 

@@ -8,16 +8,16 @@ use lib.IntN.{ℤ}
 use lib.Signed.{_≤ℤ_}
 use Rattle.theory.specs.Lists.{nums}
 use Rattle.theory.specs.Table.{Present}
-use Rattle.theory.specs.Canon.{raised, OfMaxima, AtLeast}
+use Rattle.theory.specs.Canon.{raised, OfMaxima, AtMost}
 use Rattle.orders.specs.Places.{room}
 
 -- the first k rows of a round from the additions l, of a table a whose orders are within the limit: rows are raised and never
 -- lowered; each of the k is raised to what the others had in its column before the round; no row passes a canon's addition; k rows
 -- raise the largest addition by at most 2k limits. `ended` tells whether nothing was changed.
 pub record Round (limit n : ℕ) (a : ℕ → ℕ → ℤ) (σ l : ℕ → ℕ) (k : ℕ) (ended : Bool) (next : ℕ → ℕ) : Type 0 where
-  pub grows : AtLeast n a l next
+  pub grows : AtMost n l next
   pub reaches : (i x : ℕ) → i < k → x < n → Present (a x (σ i)) → raised n a l x (σ i) ≤ℤ raised n a next i (σ i)
-  pub below : (m : ℕ → ℕ) → OfMaxima n a m σ → AtLeast n a l m → AtLeast n a next m
+  pub below : (m : ℕ → ℕ) → OfMaxima n a m σ → AtMost n l m → AtMost n next m
   pub near : (b : ℕ) → ((i : ℕ) → i < n → l i ≤ b) → (i : ℕ) → i < n → next i ≤ b + k * (2 * limit)
   pub still : ended ≡ true → (i : ℕ) → i < n → next i ≡ l i
   pub moved : ended ≡ false → (i : ℕ) × (i < n) × (l i < next i)

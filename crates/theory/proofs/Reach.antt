@@ -8,7 +8,7 @@ use native.Mathlib.Omega.{arith}
 use lib.IntN.{ℤ, pos, _+ℤ_, ℤ-discrete}
 use lib.Signed.{_≤ℤ_}
 use Rattle.theory.specs.Table.{absent, Present}
-use Rattle.theory.specs.Canon.{raised, Maximum, OfMaxima, Canon, AtLeast, LeastFrom}
+use Rattle.theory.specs.Canon.{raised, Maximum, OfMaxima, Canon, AtMost, LeastFrom}
 use Rattle.theory.proofs.Pigeonhole.{choose, choose-yes, exists, dec-exists, dec-both, dec-not}
 use Rattle.theory.proofs.Signed.{raised-le-ud, ud-raised-le, raised-lt-ud}
 use Rattle.theory.proofs.Duality.{maxima-everywhere}
@@ -67,7 +67,7 @@ module _ (n : ℕ) (a : ℕ → ℕ → ℤ) where
             };
           }
 
-      lowered-start : AtLeast n a start lowered
+      lowered-start : AtMost n start lowered
       lowered-start i hi = go (dec i)
         where
           go : (d : Dec (X i)) → start i ≤ choose d (l i - 1) (l i)
@@ -106,7 +106,7 @@ module _ (n : ℕ) (a : ℕ → ℕ → ℤ) where
 
   -- Proposition VII: if the levels exhaust the rows, the canon is the least from the start. For under any canon m from the start σ
   -- consists of column maxima too (C2), so along a tie m − l does not fall, and at level 0 it is not negative.
-  pub levels-least : {start l σ : ℕ → ℕ} (t : ℕ) → OfMaxima n a l σ → AtLeast n a start l → ((i : ℕ) → i < n → Level start l σ t i)
+  pub levels-least : {start l σ : ℕ → ℕ} (t : ℕ) → OfMaxima n a l σ → AtMost n start l → ((i : ℕ) → i < n → Level start l σ t i)
       → LeastFrom n a start l
   unfolding Level
   levels-least {start} {l} {σ} t c above levels =
@@ -116,7 +116,7 @@ module _ (n : ℕ) (a : ℕ → ℕ → ℤ) where
         least = λ m cm from i hi. below m (maxima-everywhere n a c cm) from t i hi (levels i hi);
       }
     where
-      below : (m : ℕ → ℕ) → OfMaxima n a m σ → AtLeast n a start m → (t i : ℕ) → i < n → Level start l σ t i → l i ≤ m i
+      below : (m : ℕ → ℕ) → OfMaxima n a m σ → AtMost n start m → (t i : ℕ) → i < n → Level start l σ t i → l i ≤ m i
       below m cm from zero i hi e = omega (arith, e, from i hi)
       below m cm from (suc t) i hi (inl v) = below m cm from t i hi v
       below m cm from (suc t) i hi (inr (k, hk, mk, v)) =

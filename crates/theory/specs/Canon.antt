@@ -7,6 +7,10 @@ use lib.Signed.{_≤ℤ_, _<ℤ_}
 use Rattle.theory.specs.Totals.{total, totalℕ}
 use Rattle.theory.specs.Table.{absent, Present}
 
+-- l is at most m in every row
+abbrev pub AtMost : ℕ → (ℕ → ℕ) → (ℕ → ℕ) → Type 0
+AtMost n l m = (i : ℕ) → i < n → l i ≤ m i
+
 module _ (n : ℕ) (a : ℕ → ℕ → ℤ) where
   -- "A complete transversal takes one present order from each row, no two in one column." Row i's order is in column σ i.
   pub record Transversal (σ : ℕ → ℕ) : Type 0 where
@@ -34,16 +38,12 @@ module _ (n : ℕ) (a : ℕ → ℕ → ℤ) where
     pub columns : ℕ → ℕ
     pub of-maxima : OfMaxima l columns
 
-  -- l is at least `start` in every row
-  abbrev pub AtLeast : (ℕ → ℕ) → (ℕ → ℕ) → Type 0
-  AtLeast start l = (i : ℕ) → i < n → start i ≤ l i
-
   -- the least canon from a start: "the canon whose every addition is at most that of every other canon in the same row", among
   -- the canons that are nowhere below the start
   pub record LeastFrom (start l : ℕ → ℕ) : Type 0 where
     pub canon : Canon l
-    pub from-start : AtLeast start l
-    pub least : (m : ℕ → ℕ) → Canon m → AtLeast start m → AtLeast l m
+    pub from-start : AtMost n start l
+    pub least : (m : ℕ → ℕ) → Canon m → AtMost n start m → AtMost n l m
 
   -- "The simplest canon": the least from zeros
   abbrev pub Simplest : (ℕ → ℕ) → Type 0

@@ -9,42 +9,45 @@ use native.Mathlib.Omega.{arith}
 use borrow.Author.Count.{below-more}
 use lib.ListN.{length, set, length-set, replicate, length-replicate}
 use lib.Seq.{getD-set-same, getD-set-other}
+use Rattle.theory.specs.Limits.{rows}
 use Rattle.theory.specs.Lists.{nums, columns, StarList}
 use Rattle.theory.proofs.Pigeonhole.{onto}
 use Rattle.orders.specs.Places.{Marks}
 use Rattle.orders.proofs.Entries.{clash}
+use Rattle.handed.specs.Conditions.{WrongStars, under-one, over-size, twice}
 use Rattle.handed.specs.Handed.{ListedAs}
 
--- The first k stars stand and are marked both ways; a column whose mark is below 32 has the mark of one of these rows.
+-- The first k stars stand and are marked both ways; a column whose mark is no longer the empty one has the mark of one of these rows.
 pub record Marked (n k : ℕ) (s row-of column-of : List ℕ) : Type 0 where
   pub from-one : (i : ℕ) → i < k → 1 ≤ nums s i
   pub to-size : (i : ℕ) → i < k → nums s i ≤ n
   pub column : (i : ℕ) → i < k → nums column-of i ≡ nums s i - 1
   pub back : (i : ℕ) → i < k → nums row-of (nums s i - 1) ≡ i
-  pub taken : (j : ℕ) → j < n → nums row-of j ≢ 32 → (nums row-of j < k) × (nums s (nums row-of j) ≡ j + 1)
-  pub rows-long : length row-of ≡ 32
-  pub columns-long : length column-of ≡ 32
+  pub taken : (j : ℕ) → j < n → nums row-of j ≢ rows → (nums row-of j < k) × (nums s (nums row-of j) ≡ j + 1)
+  pub rows-long : length row-of ≡ rows
+  pub columns-long : length column-of ≡ rows
 
 same-at : (m i v : ℕ) → i < m → nums (replicate m v) i ≡ v
 same-at zero i v h = absurd (omega arith)
 same-at (suc m) zero v h = refl
 same-at (suc m) (suc i) v h = same-at m i v (omega arith)
 
-pub marked-start : (n : ℕ) (s : List ℕ) → n ≤ 32 → Marked n 0 s (replicate 32 32) (replicate 32 0)
+pub marked-start : (n : ℕ) (s : List ℕ) → n ≤ rows → Marked n 0 s (replicate rows rows) (replicate rows 0)
 marked-start n s h =
     record {
       from-one = λ i hi. absurd (omega arith);
       to-size = λ i hi. absurd (omega arith);
       column = λ i hi. absurd (omega arith);
       back = λ i hi. absurd (omega arith);
-      taken = λ j hj ne. absurd (ne (same-at 32 j 32 (omega arith)));
-      rows-long = length-replicate {A = ℕ} 32 32;
-      columns-long = length-replicate {A = ℕ} 32 0;
+      taken = λ j hj ne. absurd (ne (same-at rows j rows (omega arith)));
+      rows-long = length-replicate {A = ℕ} rows rows;
+      columns-long = length-replicate {A = ℕ} rows 0;
     }
 
-module _ {n k : ℕ} {s row-of column-of : List ℕ} (m : Marked n k s row-of column-of) (small : n ≤ 32) (hk : k < n) where
+module _ {n k : ℕ} {s row-of column-of : List ℕ} (m : Marked n k s row-of column-of) (small : n ≤ rows) (hk : k < n) where
   -- the star's column is free, so no earlier row has it
-  pub marked-more : 1 ≤ nums s k → nums s k ≤ n → nums row-of (nums s k - 1) ≡ 32 → Marked n (k + 1) s (set row-of (nums s k - 1) k) (set column-of k (nums s k - 1))
+  pub marked-more : 1 ≤ nums s k → nums s k ≤ n → nums row-of (nums s k - 1) ≡ rows
+      → Marked n (k + 1) s (set row-of (nums s k - 1) k) (set column-of k (nums s k - 1))
   marked-more one size free =
       record {
         from-one = below-more (λ i. 1 ≤ nums s i) k (m .from-one) one;
@@ -66,7 +69,7 @@ module _ {n k : ℕ} {s row-of column-of : List ℕ} (m : Marked n k s row-of co
           let other : nums s i - 1 ≢ nums s k - 1 = λ e. omega (arith, m .back i (omega arith), ap (nums row-of) e, free) in
           getD-set-other row-of (nums s k - 1) (nums s i - 1) k 0 other ∙ m .back i (omega arith)
 
-      taken : (j : ℕ) → j < n → nums (set row-of (nums s k - 1) k) j ≢ 32 → Dec (j ≡ nums s k - 1)
+      taken : (j : ℕ) → j < n → nums (set row-of (nums s k - 1) k) j ≢ rows → Dec (j ≡ nums s k - 1)
           → (nums (set row-of (nums s k - 1) k) j < k + 1) × (nums s (nums (set row-of (nums s k - 1) k) j) ≡ j + 1)
       taken j hj ne (yes e) = rw (e, getD-set-same row-of (nums s k - 1) k 0 (omega (arith, m .rows-long))) (omega arith, omega arith)
       taken j hj ne (no d) =
@@ -74,16 +77,17 @@ module _ {n k : ℕ} {s row-of column-of : List ℕ} (m : Marked n k s row-of co
           rw (getD-set-other row-of (nums s k - 1) j k 0 d) (omega arith, eq)
 
   -- a star outside 1 to n, or with the column of an earlier row
-  pub marked-low : nums s k ≡ 0 → StarList n s → ⊥
-  marked-low e l = omega (arith, l .from-one k hk)
+  module _ (long : length s ≡ n) where
+    pub marked-low : nums s k ≡ 0 → WrongStars n s
+    marked-low e = under-one k (omega arith) (omega arith)
 
-  pub marked-high : n < nums s k → StarList n s → ⊥
-  marked-high h l = omega (arith, l .to-size k hk)
+    pub marked-high : n < nums s k → WrongStars n s
+    marked-high h = over-size k (omega arith) h
 
-  pub marked-twice : 1 ≤ nums s k → nums s k ≤ n → nums row-of (nums s k - 1) ≢ 32 → StarList n s → ⊥
-  marked-twice one size ne l =
-      let (lt, eq) = m .taken (nums s k - 1) (omega arith) ne in
-      omega (arith, l .none-twice (nums row-of (nums s k - 1)) k (omega arith) hk (omega arith))
+    pub marked-twice : 1 ≤ nums s k → nums s k ≤ n → nums row-of (nums s k - 1) ≢ rows → WrongStars n s
+    marked-twice one size ne =
+        let (lt, eq) = m .taken (nums s k - 1) (omega arith) ne in
+        twice (nums row-of (nums s k - 1)) k lt (omega arith) (omega arith)
 
 -- All stars stand. A column's row is found by the pigeonhole: the columns of the n rows are apart.
 module _ {n : ℕ} {s row-of column-of : List ℕ} (long : length s ≡ n) (m : Marked n n s row-of column-of) where
@@ -125,5 +129,6 @@ module _ {n : ℕ} {s row-of column-of : List ℕ} (long : length s ≡ n) (m : 
       record { star-list = λ e. marked-list; marks = λ e. marked-marks; same = λ e i hi. m .column i hi; wrong = λ e. clash refl e }
 
 -- a list that does not stand
-pub marked-wrong : {n : ℕ} {s row-of column-of : List ℕ} → (StarList n s → ⊥) → ListedAs n s (record { stands = false; rows = row-of; columns = column-of })
+pub marked-wrong : {n : ℕ} {s row-of column-of : List ℕ} → WrongStars n s
+    → ListedAs n s (record { stands = false; rows = row-of; columns = column-of })
 marked-wrong f = record { star-list = λ e. clash e refl; marks = λ e. clash e refl; same = λ e. clash e refl; wrong = λ e. f }

@@ -4,7 +4,6 @@ use mathlib.Core.Logic.{_⊎_, inl, inr}
 use mathlib.Core.Bool.{true, false}
 use mathlib.Core.List.{List, [], _∷_}
 use Prim.Native.Nat.{ℕ, _-_, _*_, _≤_, _<_}
-use native.Mathlib.Decide.{ℕ-discrete}
 use native.Mathlib.Omega.{arith}
 use lib.IntN.{ℤ, pos, negℤ}
 use lib.ListN.{length}
@@ -18,11 +17,11 @@ use Rattle.theory.proofs.Signed.{signed, below-zero}
 use Rattle.theory.proofs.Duality.{balance}
 use Rattle.theory.proofs.Unique.{least-once}
 use Rattle.theory.proofs.Bounds.{addition-bound, head-high, head-low, sum-high, sum-low}
-use Rattle.orders.specs.Refusals.{Test, _given-when_, Lowest, Clear, gives, refuses}
-use Rattle.orders.proofs.Refusals.{given-once, not-both}
+use Rattle.orders.specs.Refusals.{Test, _given-when_, First, Clear, RightLengths, gives, refuses}
+use Rattle.orders.proofs.Refusals.{given-once, not-both, right-lengths, right-not-wrong}
 use Rattle.orders.proofs.Places.{within}
-use Rattle.handed.specs.Conditions.{Fitting, TooLarge, WrongStars, NoTransversal, NoCanon, NotGreatest, basic, canon-more, canon-tests, star-more, star-tests}
-use Rattle.handed.proofs.Basics.{in-size, sized}
+use Rattle.handed.specs.Conditions.{each, slices, TooLarge, WrongStars, NoTransversal, NoCanon, NotGreatest, basic, canon-more, canon-tests, star-more, star-tests}
+use Rattle.handed.proofs.Basics.{in-size, sized, entries-known, entries-right, additions-right, stars-right}
 use Rattle.canon.specs.Answers.{said, judged}
 use Rattle.canon.specs.Promises.{Routed, refused, answered, Solves, FromCanon, FromStars, Judges, declines, says-yes, says-no}
 use Rattle.canon.specs.declared.Answer.{Answer}
@@ -53,13 +52,13 @@ pub record Kept (k : ℕ) (r : Answer) (adds adds′ stars stars′ : List ℕ) 
 
 module _ {n : ℕ} {t : List ℤ} {adds stars : List ℕ} {heads : List ℤ} (w : WellFormed n t adds stars heads) where
   -- of a call with these slices, and others of length n, the first three refusals do not apply
-  later : (more : List Test) (ks : List ℕ) → Fitting n ks → (k : ℕ) → Lowest (basic n t ks more) k → Lowest more k
+  later : (more : List Test) (ks : List ℕ) → RightLengths (each n ks) → (k : ℕ) → First (basic n t ks more) k → First more k
   later more ks f k (inl p) = absurd (in-size (w .some) (w .few) (p .0))
-  later more ks f k (inr (x, inl p)) = absurd (p .0 (w .square, f))
-  later more ks f k (inr (x, inr (y, inl p))) = absurd (p .0 (w .entries))
+  later more ks f k (inr (x, inl p)) = absurd (right-not-wrong (slices n t ks) (w .square, f) (p .0))
+  later more ks f k (inr (x, inr (y, inl p))) = absurd (entries-right (w .entries) (p .0))
   later more ks f k (inr (x, inr (y, inr (z, l)))) = l
 
-  own : Fitting n (length adds ∷ length stars ∷ length heads ∷ [])
+  own : RightLengths (each n (length adds ∷ length stars ∷ length heads ∷ []))
   own = (w .adds-long, (w .stars-long, (w .heads-long, tt)))
 
   -- ---- demand 3
@@ -69,7 +68,7 @@ module _ {n : ℕ} {t : List ℤ} {adds stars : List ℕ} {heads : List ℤ} (w 
     pub refused-if-none : NoTransversal n t → Kept 6 r adds adds′ stars stars′ heads heads′
     refused-if-none none = go p
       where
-        only : (k : ℕ) → Lowest (6 given-when NoTransversal n t ∷ []) k → k ≡ 6
+        only : (k : ℕ) → First (6 given-when NoTransversal n t ∷ []) k → k ≡ 6
         only k (inl q) = q .1
         only k (inr q) = absurd (q .1)
 
@@ -86,7 +85,7 @@ module _ {n : ℕ} {t : List ℤ} {adds stars : List ℕ} {heads : List ℤ} (w 
     pub none-if-refused : (k : ℕ) (vs : List ℕ) → said r ≡ refuses k vs → NoTransversal n t
     none-if-refused k vs e = go p
       where
-        only : (k : ℕ) → Lowest (6 given-when NoTransversal n t ∷ []) k → NoTransversal n t
+        only : (k : ℕ) → First (6 given-when NoTransversal n t ∷ []) k → NoTransversal n t
         only k (inl q) = q .0
         only k (inr q) = absurd (q .1)
 
@@ -110,22 +109,22 @@ pub record Additions (n : ℕ) (given : List ℕ) : Type 0 where
 
 module _ {n : ℕ} {t : List ℤ} {adds stars : List ℕ} {heads : List ℤ} (given : List ℕ) (w : WellFormed n t adds stars heads) (k : ℕ) where
   -- what is left of the tests of route 2 and of route 3 in well-formed calls
-  canon-left : Additions n given → Lowest (canon-tests n t given (length given ∷ length adds ∷ length stars ∷ length heads ∷ [])) k
+  canon-left : Additions n given → First (canon-tests n t given (length given ∷ length adds ∷ length stars ∷ length heads ∷ [])) k
       → (NoTransversal n t × (k ≡ 6)) ⊎ (NoCanon n t given × (k ≡ 7))
   canon-left g l = go (later w (canon-more n t given) (length given ∷ length adds ∷ length stars ∷ length heads ∷ []) (g .long, own w) k l)
     where
-      go : Lowest (canon-more n t given) k → (NoTransversal n t × (k ≡ 6)) ⊎ (NoCanon n t given × (k ≡ 7))
-      go (inl p) = absurd (p .0 (g .limited))
+      go : First (canon-more n t given) k → (NoTransversal n t × (k ≡ 6)) ⊎ (NoCanon n t given × (k ≡ 7))
+      go (inl p) = absurd (additions-right (g .limited) (p .0))
       go (inr (x, inl p)) = inl p
       go (inr (x, inr (y, inl p))) = inr p
       go (inr (x, inr (y, inr p))) = absurd (p .1)
 
-  star-left : StarList n given → Lowest (star-tests n t given (length given ∷ length adds ∷ length stars ∷ length heads ∷ [])) k
+  star-left : StarList n given → First (star-tests n t given (length given ∷ length adds ∷ length stars ∷ length heads ∷ [])) k
       → (NoTransversal n t × (k ≡ 6)) ⊎ (NotGreatest n t given × (k ≡ 8))
   star-left g l = go (later w (star-more n t given) (length given ∷ length adds ∷ length stars ∷ length heads ∷ []) (g .long, own w) k l)
     where
-      go : Lowest (star-more n t given) k → (NoTransversal n t × (k ≡ 6)) ⊎ (NotGreatest n t given × (k ≡ 8))
-      go (inl p) = absurd (p .0 g)
+      go : First (star-more n t given) k → (NoTransversal n t × (k ≡ 6)) ⊎ (NotGreatest n t given × (k ≡ 8))
+      go (inl p) = absurd (stars-right g (p .0))
       go (inr (x, inl p)) = inl p
       go (inr (x, inr (y, inl p))) = inr p
       go (inr (x, inr (y, inr p))) = absurd (p .1)
@@ -228,7 +227,7 @@ found-within {n} t adds stars heads {s} few square entries sol =
 -- what a length test that does not apply tells
 fitting-given : {n : ℕ} (t : List ℤ) (given : List ℕ) → Clear (canon-tests n t given (length given ∷ [])) → length given ≡ n
 fitting-given {n} t given clear =
-    elim (ℕ-discrete (length given) n) [ yes e ↦ e | no ne ↦ absurd (clear .1 .0 (λ f. ne (f .1 .0))) ]
+    right-lengths (slices n t (length given ∷ [])) (clear .1 .0) .1 .0
 
 module _ {n : ℕ} {t : List ℤ} {given : List ℕ} {v : Verdict} {adds stars : List ℕ} {heads : List ℤ} {r : Answer} {adds′ stars′ : List ℕ} {heads′ : List ℤ} {s : ℤ}
     (p : Solves n t adds stars heads r adds′ stars′ heads′) (e : said r ≡ gives s) where
@@ -249,14 +248,23 @@ pub yes-to-these : {n : ℕ} {t : List ℤ} {v : Verdict} {adds stars : List ℕ
 yes-to-these {s = s} (refused k l says x y z) e j = not-both s k [] (sym e ∙ says)
 yes-to-these {n} {t} {v} {adds} {stars} {heads} {r} {adds′} {stars′} {heads′} (answered z clear says la ls lh sol) e j = go j
   where
+    square : length t ≡ n * n
+    square = right-lengths (slices n t (length adds ∷ length stars ∷ length heads ∷ [])) (clear .1 .0) .0
+
     -- the tests of route 1 did not apply, so neither do those of the yes-or-no
-    declined : {k : ℕ} → Lowest (canon-tests n t adds′ (length adds′ ∷ [])) k → ⊥
+    declined : {k : ℕ} → First (canon-tests n t adds′ (length adds′ ∷ [])) k → ⊥
     declined (inl p) = clear .0 (p .0)
-    declined (inr (x, inl p)) = clear .1 .0 (λ f. p .0 (f .0, (la, tt)))
+    declined (inr (x, inl (inl ne, e))) = ne square
+    declined (inr (x, inl (inr (inl ne), e))) = ne la
+    declined (inr (x, inl (inr (inr none), e))) = none
     declined (inr (x, inr (y, inl p))) = clear .1 .1 .0 (p .0)
     declined (inr (x, inr (y, inr (u, inl p)))) =
-        clear .1 .0 (λ f. clear .1 .1 .0 (λ all. p .0 (λ i hi.
-        omega (arith, found-within t adds′ stars′ heads′ (sized (clear .0) .1) (f .0) all sol .addition-most i (omega (arith, la))))))
+        let w = p .0 in
+        omega (
+          arith,
+          w .above,
+          found-within t adds′ stars′ heads′ (sized (clear .0) .1) square (entries-known t (clear .1 .1 .0)) sol .addition-most (w .row) (omega (arith, w .inside)),
+        )
     declined (inr (x, inr (y, inr (u, inr (w, inl p))))) = p .0 (columns stars′) (sol .stars .of-maxima .transversal)
     declined (inr (x, inr (y, inr (u, inr (w, inr (q, inl p)))))) = p .0 (sol .additions .canon)
     declined (inr (x, inr (y, inr (u, inr (w, inr (q, inr p)))))) = p .1

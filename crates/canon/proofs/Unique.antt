@@ -11,7 +11,7 @@ use Rattle.theory.specs.Lists.{nums, ints, columns, StarList}
 use Rattle.theory.specs.Canon.{Solution}
 use Rattle.theory.proofs.Unique.{solution-once}
 use Rattle.orders.specs.Refusals.{numberOf, valuesOf, Test, gives}
-use Rattle.orders.proofs.Refusals.{lowest-clear, refused-once, refusal-once, given-once, not-both}
+use Rattle.orders.proofs.Refusals.{first-clear, refused-once, refusal-once, given-once, not-both}
 use Rattle.handed.specs.Conditions.{canon-tests}
 use Rattle.canon.specs.Answers.{said, judged}
 use Rattle.canon.specs.Promises.{Routed, refused, answered, Judges, declines, says-yes, says-no}
@@ -69,8 +69,8 @@ routed-once {tests} {r = r} {s = s} (refused j p u x y z) (refused k q v x′ y�
       same-stars = y ∙ sym y′;
       same-heads = z ∙ sym z′;
     }
-routed-once {tests} (refused j p u x y z) (answered w q v la ls lh sol) = absurd (lowest-clear tests j p q)
-routed-once {tests} (answered w q v la ls lh sol) (refused j p u x y z) = absurd (lowest-clear tests j p q)
+routed-once {tests} (refused j p u x y z) (answered w q v la ls lh sol) = absurd (first-clear tests j p q)
+routed-once {tests} (answered w q v la ls lh sol) (refused j p u x y z) = absurd (first-clear tests j p q)
 routed-once {a = a} {b} {c} {d} {e} {f} (answered x p u la ls lh sol) (answered y q v la′ ls′ lh′ sol′) =
     solved-once a b c d e f u v la la′ ls ls′ lh lh′ sol sol′
 
@@ -93,11 +93,11 @@ module _ (n : ℕ) (t : List ℤ) (given : List ℕ) where
 
   pub judges-once : {v w : Verdict} → Judges n t given v → Judges n t given w → v ≡ w
   judges-once {v} {w} (declines j p u) (declines k q x) = verdict-once v w (refused-once tests p u q x)
-  judges-once (declines j p u) (says-yes q x s) = absurd (lowest-clear tests j p q)
-  judges-once (declines j p u) (says-no q x s) = absurd (lowest-clear tests j p q)
-  judges-once (says-yes q x s) (declines j p u) = absurd (lowest-clear tests j p q)
+  judges-once (declines j p u) (says-yes q x s) = absurd (first-clear tests j p q)
+  judges-once (declines j p u) (says-no q x s) = absurd (first-clear tests j p q)
+  judges-once (says-yes q x s) (declines j p u) = absurd (first-clear tests j p q)
   judges-once {v} {w} (says-yes q x s) (says-yes p y t) = verdict-once v w (x ∙ sym y)
   judges-once (says-yes q x s) (says-no p y f) = absurd (f s)
-  judges-once (says-no q x f) (declines j p u) = absurd (lowest-clear tests j p q)
+  judges-once (says-no q x f) (declines j p u) = absurd (first-clear tests j p q)
   judges-once (says-no q x f) (says-yes p y s) = absurd (f s)
   judges-once {v} {w} (says-no q x f) (says-no p y g) = verdict-once v w (x ∙ sym y)

@@ -8,17 +8,17 @@ use lib.ListN.{length}
 use Rattle.theory.specs.Lists.{nums, ints, columns, StarList}
 use Rattle.theory.specs.Table.{entry}
 use Rattle.theory.specs.Canon.{Simplest, Solution}
-use Rattle.orders.specs.Refusals.{Test, Lowest, Clear, gives, refuses}
+use Rattle.orders.specs.Refusals.{Test, First, Clear, gives, refuses}
 use Rattle.handed.specs.Conditions.{table-tests, canon-tests, star-tests}
 use Rattle.canon.specs.Answers.{said, judged}
 use Rattle.canon.specs.declared.Answer.{Answer}
 use Rattle.canon.specs.declared.Verdict.{Verdict}
 
--- A route's call. Either some refusal that concerns the call applies: then the lowest is returned and "each lent buffer then holds
+-- A route's call. Either some refusal that concerns the call applies: then the first, which is the lowest, is returned and "each lent buffer then holds
 -- what it held at the call". Or none does: then the sum is returned, and the lent slices hold the simplest canon, the stars and
 -- the heads.
 pub data Routed (tests : List Test) (n : ℕ) (t : List ℤ) (adds stars : List ℕ) (heads : List ℤ) (r : Answer) (adds′ stars′ : List ℕ) (heads′ : List ℤ) : Type 0 where
-  refused : (k : ℕ) → Lowest tests k → said r ≡ refuses k [] → adds′ ≡ adds → stars′ ≡ stars → heads′ ≡ heads
+  refused : (k : ℕ) → First tests k → said r ≡ refuses k [] → adds′ ≡ adds → stars′ ≡ stars → heads′ ≡ heads
       → Routed tests n t adds stars heads r adds′ stars′ heads′
   answered : (s : ℤ) → Clear tests → said r ≡ gives s → length adds′ ≡ n → StarList n stars′ → length heads′ ≡ n
       → Solution n (entry t n) (λ i. 0) (nums adds′) (columns stars′) (ints heads′) s
@@ -41,7 +41,7 @@ FromStars n t given adds stars heads =
 -- The yes-or-no "takes route 2's input and says yes exactly when the additions are the simplest canon". It is lent nothing that it
 -- could write.
 pub data Judges (n : ℕ) (t : List ℤ) (given : List ℕ) (r : Verdict) : Type 0 where
-  declines : (k : ℕ) → Lowest (canon-tests n t given (length given ∷ [])) k → judged r ≡ refuses k [] → Judges n t given r
+  declines : (k : ℕ) → First (canon-tests n t given (length given ∷ [])) k → judged r ≡ refuses k [] → Judges n t given r
   says-yes : Clear (canon-tests n t given (length given ∷ [])) → judged r ≡ gives true → Simplest n (entry t n) (nums given) → Judges n t given r
   says-no : Clear (canon-tests n t given (length given ∷ [])) → judged r ≡ gives false → (Simplest n (entry t n) (nums given) → ⊥)
       → Judges n t given r

@@ -14,9 +14,10 @@ use Rattle.theory.specs.Lists.{nums, columns, StarList}
 use Rattle.theory.proofs.Pigeonhole.{onto}
 use Rattle.orders.specs.Places.{Marks}
 use Rattle.orders.proofs.Entries.{clash}
+use Rattle.handed.specs.Conditions.{WrongStars, under-one, over-size, twice}
 use Rattle.handed.specs.Handed.{ListedAs}
 
--- The first k stars stand and are marked both ways; a column whose mark is not `rows` has the mark of one of these rows.
+-- The first k stars stand and are marked both ways; a column whose mark is no longer the empty one has the mark of one of these rows.
 pub record Marked (n k : ℕ) (s row-of column-of : List ℕ) : Type 0 where
   pub from-one : (i : ℕ) → i < k → 1 ≤ nums s i
   pub to-size : (i : ℕ) → i < k → nums s i ≤ n
@@ -45,7 +46,8 @@ marked-start n s h =
 
 module _ {n k : ℕ} {s row-of column-of : List ℕ} (m : Marked n k s row-of column-of) (small : n ≤ rows) (hk : k < n) where
   -- the star's column is free, so no earlier row has it
-  pub marked-more : 1 ≤ nums s k → nums s k ≤ n → nums row-of (nums s k - 1) ≡ rows → Marked n (k + 1) s (set row-of (nums s k - 1) k) (set column-of k (nums s k - 1))
+  pub marked-more : 1 ≤ nums s k → nums s k ≤ n → nums row-of (nums s k - 1) ≡ rows
+      → Marked n (k + 1) s (set row-of (nums s k - 1) k) (set column-of k (nums s k - 1))
   marked-more one size free =
       record {
         from-one = below-more (λ i. 1 ≤ nums s i) k (m .from-one) one;
@@ -75,16 +77,17 @@ module _ {n k : ℕ} {s row-of column-of : List ℕ} (m : Marked n k s row-of co
           rw (getD-set-other row-of (nums s k - 1) j k 0 d) (omega arith, eq)
 
   -- a star outside 1 to n, or with the column of an earlier row
-  pub marked-low : nums s k ≡ 0 → StarList n s → ⊥
-  marked-low e l = omega (arith, l .from-one k hk)
+  module _ (long : length s ≡ n) where
+    pub marked-low : nums s k ≡ 0 → WrongStars n s
+    marked-low e = under-one k (omega arith) (omega arith)
 
-  pub marked-high : n < nums s k → StarList n s → ⊥
-  marked-high h l = omega (arith, l .to-size k hk)
+    pub marked-high : n < nums s k → WrongStars n s
+    marked-high h = over-size k (omega arith) h
 
-  pub marked-twice : 1 ≤ nums s k → nums s k ≤ n → nums row-of (nums s k - 1) ≢ rows → StarList n s → ⊥
-  marked-twice one size ne l =
-      let (lt, eq) = m .taken (nums s k - 1) (omega arith) ne in
-      omega (arith, l .none-twice (nums row-of (nums s k - 1)) k (omega arith) hk (omega arith))
+    pub marked-twice : 1 ≤ nums s k → nums s k ≤ n → nums row-of (nums s k - 1) ≢ rows → WrongStars n s
+    marked-twice one size ne =
+        let (lt, eq) = m .taken (nums s k - 1) (omega arith) ne in
+        twice (nums row-of (nums s k - 1)) k lt (omega arith) (omega arith)
 
 -- All stars stand. A column's row is found by the pigeonhole: the columns of the n rows are apart.
 module _ {n : ℕ} {s row-of column-of : List ℕ} (long : length s ≡ n) (m : Marked n n s row-of column-of) where
@@ -126,5 +129,6 @@ module _ {n : ℕ} {s row-of column-of : List ℕ} (long : length s ≡ n) (m : 
       record { star-list = λ e. marked-list; marks = λ e. marked-marks; same = λ e i hi. m .column i hi; wrong = λ e. clash refl e }
 
 -- a list that does not stand
-pub marked-wrong : {n : ℕ} {s row-of column-of : List ℕ} → (StarList n s → ⊥) → ListedAs n s (record { stands = false; rows = row-of; columns = column-of })
+pub marked-wrong : {n : ℕ} {s row-of column-of : List ℕ} → WrongStars n s
+    → ListedAs n s (record { stands = false; rows = row-of; columns = column-of })
 marked-wrong f = record { star-list = λ e. clash e refl; marks = λ e. clash e refl; same = λ e. clash e refl; wrong = λ e. f }

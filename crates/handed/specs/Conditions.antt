@@ -4,39 +4,46 @@
 use mathlib.Core.Path.{_≡_}
 use mathlib.Core.Logic.{_⊎_}
 use mathlib.Core.List.{List, [], _∷_}
-use Prim.Native.Nat.{ℕ, _*_, _≤_, _<_}
-use lib.IntN.{ℤ}
-use lib.ListN.{length}
+use Prim.Native.Nat.{ℕ, _*_, _<_}
+use lib.IntN.{ℤ, pos}
+use lib.ListN.{length, getD}
 use Rattle.theory.specs.Limits.{rows, order, handed}
-use Rattle.theory.specs.Lists.{nums, columns, StarList}
-use Rattle.theory.specs.Table.{entry, Entries}
+use Rattle.theory.specs.Lists.{nums, columns}
+use Rattle.theory.specs.Table.{Present, Order, entry}
 use Rattle.theory.specs.Canon.{Transversal, Canon, Misplaced}
-use Rattle.orders.specs.Refusals.{Test, _given-when_}
+use Rattle.orders.specs.Refusals.{Test, _given-when_, Slice, _wanted_, WrongLength}
 
 -- 1: "N is 0 or above 32"
 abbrev pub OutOfSize : ℕ → Type 0
 OutOfSize n = (n ≡ 0) ⊎ (rows < n)
 
--- "additions, stars, heads N each"
-abbrev pub Fitting : ℕ → List ℕ → Type 0
-Fitting n [] = Unit
-Fitting n (k ∷ ks) = (k ≡ n) × Fitting n ks
+-- "additions, stars, heads N each": ks are the lengths of these
+abbrev pub each : ℕ → List ℕ → List Slice
+each n [] = []
+each n (k ∷ ks) = k wanted n ∷ each n ks
 
--- 2: "a lent slice isn't of the wanted length": "Table N × N", and the lengths ks N each
-abbrev pub WrongLength : ℕ → List ℤ → List ℕ → Type 0
-WrongLength n t ks = (length t ≡ n * n) × Fitting n ks → ⊥
+-- the slices of a call, for refusal 2: "Table N × N" and the others
+abbrev pub slices : ℕ → List ℤ → List ℕ → List Slice
+slices n t ks = length t wanted n * n ∷ each n ks
 
 -- 3: "an entry is neither absent nor −100 to 100"
-abbrev pub WrongEntry : List ℤ → Type 0
-WrongEntry t = Entries order t → ⊥
+pub record WrongEntry (t : List ℤ) : Type 0 where
+  pub place : ℕ
+  pub inside : place < length t
+  pub not-absent : Present (getD t place (pos 0))
+  pub no-order : Order order (getD t place (pos 0)) → ⊥
 
 -- 4: "an addition handed in is above 10,000"
-abbrev pub TooLarge : List ℕ → Type 0
-TooLarge l = ((i : ℕ) → i < length l → nums l i ≤ handed) → ⊥
+pub record TooLarge (l : List ℕ) : Type 0 where
+  pub row : ℕ
+  pub inside : row < length l
+  pub above : handed < nums l row
 
 -- 5: "a star list has a number outside 1 to N, or one twice"
-abbrev pub WrongStars : ℕ → List ℕ → Type 0
-WrongStars n s = StarList n s → ⊥
+pub data WrongStars (n : ℕ) (s : List ℕ) : Type 0 where
+  under-one : (i : ℕ) → i < length s → nums s i < 1 → WrongStars n s
+  over-size : (i : ℕ) → i < length s → n < nums s i → WrongStars n s
+  twice : (i k : ℕ) → i < k → k < length s → nums s i ≡ nums s k → WrongStars n s
 
 -- 6: "no complete transversal exists"
 abbrev pub NoTransversal : ℕ → List ℤ → Type 0
@@ -52,7 +59,7 @@ NotGreatest n t s = Misplaced n (entry t n) (columns s)
 
 -- the first three, which concern every call on a table
 abbrev pub basic : ℕ → List ℤ → List ℕ → List Test → List Test
-basic n t ks more = 1 given-when OutOfSize n ∷ 2 given-when WrongLength n t ks ∷ 3 given-when WrongEntry t ∷ more
+basic n t ks more = 1 given-when OutOfSize n ∷ 2 given-when WrongLength (slices n t ks) ∷ 3 given-when WrongEntry t ∷ more
 
 -- route 1
 abbrev pub table-tests : ℕ → List ℤ → List ℕ → List Test

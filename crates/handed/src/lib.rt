@@ -2,12 +2,12 @@ ghost use mathlib.Core.Path.{_≡_};
 ghost use mathlib.Core.List.{[], _∷_};
 ghost use Prim.Native.Nat.{ℕ, _≤_, _<_};
 ghost use lib.ListN.{length};
-ghost use Rattle.theory.specs.Limits.{rows, handed};
+ghost use Rattle.theory.specs.Limits.{rows};
 ghost use Rattle.theory.specs.Lists.{nums};
 ghost use Rattle.theory.specs.Table.{Present, entry};
 ghost use Rattle.orders.specs.Places.{Square};
 ghost use Rattle.orders.specs.Tested.{Tells};
-ghost use Rattle.handed.specs.Handed.{Basic, ListedAs};
+ghost use Rattle.handed.specs.Handed.{Basic, WithinAs, ListedAs};
 use orders::ABSENT;
 use orders::HANDED;
 use orders::ROWS;
@@ -21,7 +21,7 @@ pub enum FirstTests {
     Refused(Refusal),
 }
 
-// The lowest of the refusals 1, 2 and 3 that applies, if one does: the size, the table's length and four lengths that are to be n, the
+// The first of the refusals 1, 2 and 3 that applies, if one does: the size, the table's length and four lengths that are to be n, the
 // entries. Rules out a later refusal where an earlier one applies, a length passed over, and a refusal where none applies.
 pub fn tested(
     n: usize,
@@ -62,7 +62,7 @@ pub fn tested(
 
 // Are all additions handed in within the limit? Rules out 10,001 let through and 10,000 turned away.
 pub fn additions_stand(given: &[u32]) -> bool
-    ensures { λ r. ⌜ Tells r ((i : ℕ) → i < length (now (given .entry)) → nums (now (given .entry)) i ≤ handed) ⌝ }
+    ensures { λ r. ⌜ WithinAs (now (given .entry)) r ⌝ }
 {
     let mut i = 0;
     while i < given.len() {

@@ -1,7 +1,7 @@
 -- Document 01's "Refusal numbers": the number and the values of each case of the refusal.
-use Prim.Native.Nat.{ℕ}
+use Prim.Native.Nat.{ℕ, _<_}
 use mathlib.Core.Path.{_≡_}
-use mathlib.Core.Logic.{_⊎_}
+use mathlib.Core.Logic.{_⊎_, _≢_}
 use mathlib.Core.List.{List, [], _∷_}
 use Rattle.orders.specs.declared.Refusal.{Refusal}
 use Rattle.orders.specs.declared.Refusal.the-variants.{Size, Length, Entry, Addition, StarList, NoTransversal, NoCanon, NotGreatest, TooLong, Line, Label, Room}
@@ -57,13 +57,54 @@ infix 68 _given-when_
 abbrev pub _given-when_ : ℕ → Type 0 → Test
 _given-when_ k P = record { number = k; applies = P }
 
--- "The lowest number that applies is given, each call testing those that concern it": k is the number of the first of the tests,
--- which stand in rising order, that applies
-abbrev pub Lowest : List Test → ℕ → Type 0
-Lowest [] k = ⊥
-Lowest (t ∷ ts) k = (t .applies × (k ≡ t .number)) ⊎ ((t .applies → ⊥) × Lowest ts k)
+-- "each call testing those that concern it": k is the number of the first of the tests that applies. The numbers of each call's tests
+-- rise, so the first that applies is "the lowest number that applies" (`first-lowest` of the proofs)
+abbrev pub First : List Test → ℕ → Type 0
+First [] k = ⊥
+First (t ∷ ts) k = (t .applies × (k ≡ t .number)) ⊎ ((t .applies → ⊥) × First ts k)
 
 -- none of the tests applies
 abbrev pub Clear : List Test → Type 0
 Clear [] = Unit
 Clear (t ∷ ts) = (t .applies → ⊥) × Clear ts
+
+-- k is the number of one of the tests that apply
+abbrev pub Applies : List Test → ℕ → Type 0
+Applies [] k = ⊥
+Applies (t ∷ ts) k = (t .applies × (k ≡ t .number)) ⊎ Applies ts k
+
+-- the numbers of the tests
+abbrev pub numbers : List Test → List ℕ
+numbers [] = []
+numbers (t ∷ ts) = t .number ∷ numbers ts
+
+-- each of the numbers is below the next
+abbrev pub Rising : List ℕ → Type 0
+Rising [] = Unit
+Rising (j ∷ []) = Unit
+Rising (j ∷ k ∷ ks) = (j < k) × Rising (k ∷ ks)
+
+-- k is one of the numbers
+abbrev pub Among : List ℕ → ℕ → Type 0
+Among [] k = ⊥
+Among (j ∷ js) k = (k ≡ j) ⊎ Among js k
+
+-- ---- refusal 2, which concerns every call that is lent a slice
+-- the length of a lent slice, and the wanted one
+pub record Slice : Type 0 where
+  pub length : ℕ
+  pub due : ℕ
+
+infix 68 _wanted_
+abbrev pub _wanted_ : ℕ → ℕ → Slice
+_wanted_ k w = record { length = k; due = w }
+
+-- 2: "a lent slice isn't of the wanted length": one of these slices
+abbrev pub WrongLength : List Slice → Type 0
+WrongLength [] = ⊥
+WrongLength (s ∷ ss) = (s .length ≢ s .due) ⊎ WrongLength ss
+
+-- each of them is
+abbrev pub RightLengths : List Slice → Type 0
+RightLengths [] = Unit
+RightLengths (s ∷ ss) = (s .length ≡ s .due) × RightLengths ss

@@ -13,10 +13,10 @@ use Rattle.theory.specs.Lists.{nums, ints, columns, StarList}
 use Rattle.theory.specs.Table.{entry}
 use Rattle.theory.specs.Canon.{Solution}
 use Rattle.orders.specs.declared.Refusal.{Refusal}
-use Rattle.orders.specs.Refusals.{numberOf, valuesOf, Lowest, Said, gives, refuses, refusal}
-use Rattle.orders.proofs.Refusals.{given-once, not-both}
-use Rattle.handed.specs.Conditions.{NoTransversal, table-tests}
-use Rattle.handed.proofs.Basics.{in-size}
+use Rattle.orders.specs.Refusals.{numberOf, valuesOf, First, Said, gives, refuses, refusal}
+use Rattle.orders.proofs.Refusals.{given-once, not-both, right-not-wrong}
+use Rattle.handed.specs.Conditions.{slices, NoTransversal, table-tests}
+use Rattle.handed.proofs.Basics.{in-size, entries-right}
 use Rattle.canon.specs.Answers.{said}
 use Rattle.canon.specs.Promises.{Solves, refused, answered}
 use Rattle.canon.specs.declared.Answer.{Answer}
@@ -27,6 +27,7 @@ use Rattle.sheet.specs.Reading.{start, good, Reads, TooLong}
 use Rattle.sheet.proofs.Matching.{read-is-written}
 use Rattle.lettering.specs.Putting.{Puts}
 use Rattle.reader.specs.Promise as reading
+use Rattle.reader.proofs.PromiseLaws.{lengths-right}
 use Rattle.reader.specs.declared.Read.{Read}
 use Rattle.reader.specs.declared.Read.the-variants as read
 use Rattle.printing.specs.Printed.{Figures, printed}
@@ -45,10 +46,10 @@ figures a s z v x = record { adds = a; stars = s; heads = z; sum = v; index = x 
 
 -- A table that was read and slices of its size: only refusal 6 is left to the solver.
 module _ (n : ℕ) (t : List ℤ) (h : Tabled n t) (a s : List ℕ) (z : List ℤ) (al : length a ≡ n) (sl : length s ≡ n) (zl : length z ≡ n) where
-  only-six : (k : ℕ) → Lowest (table-tests n t (length a ∷ length s ∷ length z ∷ [])) k → (k ≡ 6) × NoTransversal n t
+  only-six : (k : ℕ) → First (table-tests n t (length a ∷ length s ∷ length z ∷ [])) k → (k ≡ 6) × NoTransversal n t
   only-six k (inl l) = absurd (in-size (λ z. omega (arith, h .some)) (h .few) (l .0))
-  only-six k (inr (p, inl l)) = absurd (l .0 (h .square, (al, (sl, (zl, tt)))))
-  only-six k (inr (p, inr (q, inl l))) = absurd (l .0 (h .entries-stand))
+  only-six k (inr (p, inl l)) = absurd (right-not-wrong (slices n t (length a ∷ length s ∷ length z ∷ [])) (h .square, (al, (sl, (zl, tt)))) (l .0))
+  only-six k (inr (p, inr (q, inl l))) = absurd (entries-right (h .entries-stand) (l .0))
   only-six k (inr (p, inr (q, inr (u, inl l)))) = (l .1, l .0)
   only-six k (inr (p, inr (q, inr (u, inr l)))) = absurd (l .1)
 
@@ -118,8 +119,8 @@ module _ (s : List ℕ) (m m′ : reading.Lent) (w : reading.Wanted m) (r : Read
       says-this : (k : ℕ) (vs : List ℕ) → reading.says r ≡ refuses k vs → _≡_ {A = Said Figures} (refusal y) (refuses k vs)
       says-this k vs e = same-refusal y k vs (sym (ap reading.says q) ∙ e)
 
-      lower : (k : ℕ) → Lowest (reading.reader-tests s m) k → reading.says r ≡ refuses k [] → SheetSays s (refusal y)
-      lower k (inl l) e = absurd (l .0 w)
+      lower : (k : ℕ) → First (reading.reader-tests s m) k → reading.says r ≡ refuses k [] → SheetSays s (refusal y)
+      lower k (inl l) e = absurd (lengths-right w (l .0))
       lower k (inr (v, inl l)) e = too-long (l .0) (says-this k [] e ∙ ap (λ (i : ℕ). refuses i []) (l .1))
       lower k (inr (v, inr l)) e = absurd (l .1)
 

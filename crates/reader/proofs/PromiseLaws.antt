@@ -9,7 +9,8 @@ use lib.ListN.{length, take, drop, replicate, length-append, length-drop, drop-o
 use lib.Seq.{take-at, take-append-add}
 use Rattle.theory.specs.Limits.{rows, sheet}
 use Rattle.theory.specs.Table.{absent}
-use Rattle.orders.specs.Refusals.{Clear, gives, refuses}
+use Rattle.orders.specs.Refusals.{Clear, WrongLength, gives, refuses}
+use Rattle.orders.proofs.Refusals.{right-not-wrong}
 use Rattle.sheet.specs.Text.{over}
 use Rattle.sheet.specs.Labels.{width, slots, Labels}
 use Rattle.sheet.specs.Reading.{start, tableOf, good, wrong, Reads, done, TooLong, WrongLine}
@@ -17,7 +18,7 @@ use Rattle.sheet.proofs.Slots.{slots-length, labels-short}
 use Rattle.sheet.proofs.Matching.{read-is-written}
 use Rattle.reader.specs.declared.Walked.{Walked}
 use Rattle.reader.specs.Parts.{Holding, WalkTells}
-use Rattle.reader.specs.Promise.{Lent, lent, Wanted, WrongLength, reader-tests, ReadPromise, refused, wrong-line, read}
+use Rattle.reader.specs.Promise.{Lent, lent, Wanted, slices, reader-tests, ReadPromise, refused, wrong-line, read}
 use Rattle.reader.proofs.KeepLaws.{take-replicate}
 use Rattle.reader.proofs.WalkLaws.{surplus, places-few}
 
@@ -25,16 +26,20 @@ use Rattle.reader.proofs.WalkLaws.{surplus, places-few}
 pub wanted : (t : List ℤ) (r c : List ℕ) → length t ≡ 1024 → length r ≡ 256 → length c ≡ 256 → Wanted (lent t r c)
 wanted t r c p q u = record { table-length = p; rows-length = q; cols-length = u }
 
--- the lowest refusal that applies, from what the tests told; and when 2 and 9 do not
-pub refuse-length : (s : List ℕ) (m : Lent) → WrongLength m → ReadPromise s m m (refuses 2 [])
+-- to which refusal 2 does not apply
+pub lengths-right : {m : Lent} → Wanted m → WrongLength (slices m) → ⊥
+lengths-right {m} w = right-not-wrong (slices m) (w .table-length, (w .rows-length, (w .cols-length, tt)))
+
+-- the first refusal that applies, from what the tests told; and when 2 and 9 do not
+pub refuse-length : (s : List ℕ) (m : Lent) → WrongLength (slices m) → ReadPromise s m m (refuses 2 [])
 refuse-length s m other = refused 2 (inl (other, refl)) refl refl
 
 module _ (s : List ℕ) (m : Lent) (lengths : Wanted m) where
   pub refuse-long : TooLong s → ReadPromise s m m (refuses 9 [])
-  refuse-long long = refused 9 (inr ((λ f. f lengths), inl (long, refl))) refl refl
+  refuse-long long = refused 9 (inr (lengths-right lengths, inl (long, refl))) refl refl
 
   pub all-clear : length s ≤ sheet → Clear (reader-tests s m)
-  all-clear few = ((λ f. f lengths), ((λ long. omega arith), tt))
+  all-clear few = (lengths-right lengths, ((λ long. omega arith), tt))
 
   pub refuse-line : length s ≤ sheet → (k : ℕ) → WrongLine s k → ReadPromise s m m (refuses 10 (k ∷ []))
   refuse-line few k line = wrong-line k (all-clear few) line refl refl

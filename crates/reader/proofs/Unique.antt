@@ -4,7 +4,7 @@ use mathlib.Core.List.{List, [], _∷_}
 use Prim.Native.Nat.{ℕ}
 use lib.ListN.{length}
 use Rattle.orders.specs.Refusals.{numberOf, valuesOf, Said, gives, refuses}
-use Rattle.orders.proofs.Refusals.{lowest-clear, refused-once, refusal-once, given-once, not-both}
+use Rattle.orders.proofs.Refusals.{first-clear, refused-once, refusal-once, given-once, not-both}
 use Rattle.sheet.proofs.Once.{good-once, wrong-once, good-not-wrong}
 use Rattle.reader.specs.declared.Read.{Read}
 use Rattle.reader.specs.declared.Read.the-variants.{Rows, Refused}
@@ -24,13 +24,13 @@ pub record Same (a b : Said ℕ) (m n : Lent) : Type 0 where
 pub promise-once : (s : List ℕ) (m p q : Lent) (a b : Said ℕ) → ReadPromise s m p a → ReadPromise s m q b → Same a b p q
 promise-once s m p q a b (refused j l e f) (refused k l′ e′ f′) =
     record { answer = refused-once (reader-tests s m) l e l′ e′; memory = f ∙ sym f′ }
-promise-once s m p q a b (refused j l e f) (wrong-line k c r e′ f′) = absurd (lowest-clear (reader-tests s m) j l c)
-promise-once s m p q a b (refused j l e f) (read t c r e′ f′) = absurd (lowest-clear (reader-tests s m) j l c)
-promise-once s m p q a b (wrong-line k c r e f) (refused j l e′ f′) = absurd (lowest-clear (reader-tests s m) j l c)
+promise-once s m p q a b (refused j l e f) (wrong-line k c r e′ f′) = absurd (first-clear (reader-tests s m) j l c)
+promise-once s m p q a b (refused j l e f) (read t c r e′ f′) = absurd (first-clear (reader-tests s m) j l c)
+promise-once s m p q a b (wrong-line k c r e f) (refused j l e′ f′) = absurd (first-clear (reader-tests s m) j l c)
 promise-once s m p q a b (wrong-line k c r e f) (wrong-line k′ c′ r′ e′ f′) =
     record { answer = e ∙ ap (λ x. refuses 10 (x ∷ [])) (wrong-once r r′) ∙ sym e′; memory = f ∙ sym f′ }
 promise-once s m p q a b (wrong-line k c r e f) (read t c′ r′ e′ f′) = good-not-wrong r′ r
-promise-once s m p q a b (read t c r e f) (refused j l e′ f′) = absurd (lowest-clear (reader-tests s m) j l c)
+promise-once s m p q a b (read t c r e f) (refused j l e′ f′) = absurd (first-clear (reader-tests s m) j l c)
 promise-once s m p q a b (read t c r e f) (wrong-line k c′ r′ e′ f′) = good-not-wrong r r′
 promise-once s m p q a b (read t c r e f) (read t′ c′ r′ e′ f′) =
     let h : t ≡ t′ = good-once r r′ in

@@ -5,7 +5,7 @@ use Prim.Native.Nat.{ℕ, _*_}
 use lib.IntN.{ℤ}
 use lib.ListN.{length}
 use Rattle.theory.specs.Limits.{rows}
-use Rattle.orders.specs.Refusals.{Said, gives, refuses, refusal, Test, _given-when_, Lowest, Clear}
+use Rattle.orders.specs.Refusals.{Said, gives, refuses, refusal, Test, _given-when_, First, Clear, Slice, _wanted_, WrongLength}
 use Rattle.sheet.specs.Text.{over}
 use Rattle.sheet.specs.Labels.{width, slots}
 use Rattle.sheet.specs.Sheet.{Labelled}
@@ -33,13 +33,16 @@ pub record Wanted (m : Lent) : Type 0 where
   pub rows-length : length (m .row-labels) ≡ width * rows
   pub cols-length : length (m .col-labels) ≡ width * rows
 
--- 2: "a lent slice isn't of the wanted length"
-abbrev pub WrongLength : Lent → Type 0
-WrongLength m = Wanted m → ⊥
+-- the same for refusal 2
+abbrev pub slices : Lent → List Slice
+slices m =
+    length (m .table) wanted rows * rows ∷
+    length (m .row-labels) wanted width * rows ∷
+    length (m .col-labels) wanted width * rows ∷ []
 
 -- "Reader: 2, 9, 10": the two that are tested before the lines are read
 abbrev pub reader-tests : List ℕ → Lent → List Test
-reader-tests s m = 2 given-when WrongLength m ∷ 9 given-when TooLong s ∷ []
+reader-tests s m = 2 given-when WrongLength (slices m) ∷ 9 given-when TooLong s ∷ []
 
 -- "It writes the first N × N entries and 8 bytes a label, filled up with zero bytes; later entries and bytes stay."
 abbrev pub written : Labelled → Lent → Lent
@@ -54,7 +57,7 @@ written t m =
 -- neither does, and the lines are read: then 10 is returned with the number of the wrong line; or, where no line is wrong, N, with
 -- the table and the labels written. With a refusal "each lent buffer then holds what it held at the call".
 pub data ReadPromise (s : List ℕ) (m m′ : Lent) (a : Said ℕ) : Type 0 where
-  refused : (k : ℕ) → Lowest (reader-tests s m) k → a ≡ refuses k [] → m′ ≡ m → ReadPromise s m m′ a
+  refused : (k : ℕ) → First (reader-tests s m) k → a ≡ refuses k [] → m′ ≡ m → ReadPromise s m m′ a
   wrong-line : (k : ℕ) → Clear (reader-tests s m) → WrongLine s k → a ≡ refuses 10 (k ∷ []) → m′ ≡ m → ReadPromise s m m′ a
   read : (t : Labelled) → Clear (reader-tests s m) → Reads start 1 s (good t) → a ≡ gives (length (t .row-labels)) → m′ ≡ written t m
       → ReadPromise s m m′ a

@@ -3,14 +3,13 @@
 use mathlib.Core.Path.{_≡_, refl, sym, ap, subst, subst⁻¹, _∙_}
 use mathlib.Core.List.{List, [], _∷_}
 use Prim.Native.Nat.{ℕ, _*_, _≤_}
-use native.Mathlib.Decide.{ℕ-discrete}
 use native.Mathlib.Omega.{arith}
 use lib.ListN.{length, take, drop}
 use lib.Seq.{take-at}
 use Rattle.theory.specs.Limits.{order}
 use Rattle.theory.specs.Table.{Entries}
-use Rattle.orders.specs.Refusals.{Said, gives, Clear}
-use Rattle.orders.proofs.Refusals.{given-once, not-both}
+use Rattle.orders.specs.Refusals.{Said, gives, Clear, WrongLength}
+use Rattle.orders.proofs.Refusals.{given-once, not-both, right-lengths}
 use Rattle.handed.proofs.Basics.{in-size, sized, entries-known}
 use Rattle.sheet.specs.Text.{over}
 use Rattle.sheet.specs.Labels.{width, Labels, slots}
@@ -32,16 +31,10 @@ count-of : (ls : List (List ℕ)) (b : List ℕ) (n : ℕ) → Labels ls → slo
 count-of ls b n p e h = omega (arith, slots-length ls (labels-short ls p), ap length e)
 
 -- lengths to which refusal 2 does not apply are the wanted ones
-lengths-known : (h : Model) → (writing.WrongLength h → ⊥) → writing.Wanted h
+lengths-known : (h : Model) → (WrongLength (writing.slices h) → ⊥) → writing.Wanted h
 lengths-known h f =
-    record {
-      table-length = known (length (h .table)) (h .n * h .n) (λ ne. f (λ w. ne (w .table-length)));
-      rows-length = known (length (h .row-labels)) (width * h .n) (λ ne. f (λ w. ne (w .rows-length)));
-      cols-length = known (length (h .col-labels)) (width * h .n) (λ ne. f (λ w. ne (w .cols-length)));
-    }
-  where
-    known : (a b : ℕ) → ((a ≡ b → ⊥) → ⊥) → a ≡ b
-    known a b g = elim (ℕ-discrete a b) [ yes e ↦ e | no ne ↦ absurd (g ne) ]
+    let right = right-lengths (writing.slices h) f in
+    record { table-length = right .0; rows-length = right .1 .0; cols-length = right .1 .1 .0 }
 
 -- what is handed to the writer and not refused is a labelled table within the limits, of as many rows as are handed
 model-rows : (h : Model) (o : List ℕ) (t : Labelled) → Clear (writer-tests h o) → Labelling h t → length (t .row-labels) ≡ h .n

@@ -16,7 +16,7 @@ use Rattle.writer.specs.Parts.{labelsOf, BufferStands, Tested, restText,
 use Rattle.lettering.specs.Putting.{Puts}
 use Rattle.writer.specs.Promise.{model, Wanted, Labelling, WritePromise, wrote}
 use Rattle.writer.proofs.Refusing.{refuse-room, all-clear}
-use Rattle.writer.proofs.SlotLaws.{labels-count, buffer-slots, buffer-labels, labels-buffer}
+use Rattle.writer.proofs.SlotLaws.{labels-count, buffer-slots, buffer-labels}
 
 -- the length of the sheet, section by section
 head-length : (h : List ℕ) (n : ℕ) → length (ended (h ++ text n)) ≡ length h + length (text n) + 1
@@ -59,7 +59,7 @@ module _ (n : ℕ) (t : List ℤ) (r c : List ℕ) where
     pub tested : Entries order t → Tested n t
     tested e = record { some = sized s .0; few = sized s .1; square = w .table-length; entries-stand = e }
 
-    -- buffers that stand hold a labelled table, and others hold none
+    -- buffers that stand hold a labelled table
     pub labelling : BufferStands n r → BufferStands n c → Labelling (model n t r c) (labelled n t r c)
     labelling p q =
         record {
@@ -69,12 +69,6 @@ module _ (n : ℕ) (t : List ℤ) (r c : List ℕ) where
           cols-stand = buffer-labels n c (w .cols-length) q;
           entries-are = refl;
         }
-
-    pub rows-fail : (BufferStands n r → ⊥) → (x : Labelled) → Labelling (model n t r c) x → ⊥
-    rows-fail f x l = f (labels-buffer (x .row-labels) n r (l .rows-are) (w .rows-length) (l .rows-stand))
-
-    pub cols-fail : (BufferStands n c → ⊥) → (x : Labelled) → Labelling (model n t r c) x → ⊥
-    cols-fail f x l = f (labels-buffer (x .col-labels) n c (l .cols-are) (w .cols-length) (l .cols-stand))
 
     module _ (e : Entries order t) (p : BufferStands n r) (q : BufferStands n c) (o : List ℕ) where
       pub write-refused : (k : ℕ) → k ≡ length (sheetText n t r c) → length o < k → WritePromise (model n t r c) o o (refuses 12 [])

@@ -15,7 +15,9 @@ use native.Mathlib.Decide.{ℕ-discrete}
 use Rattle.sheet.specs.Labels.{width, Form, Labels, filled, slots, slot, Repeated}
 use Rattle.sheet.specs.Sheet.{labelLines}
 use Rattle.sheet.proofs.Slots.{slot-at, filled-once, labels-short, form-nonzero, slots-length, filled-length}
-use Rattle.writer.specs.Parts.{labelOf, labelsOf, SlotStands, BufferStands}
+use Rattle.orders.proofs.Entries.{clash}
+use Rattle.writer.specs.Parts.{labelOf, labelsOf, SlotStands, BufferStands, LabelsTold}
+use Rattle.writer.specs.Promise.{WrongIn, malformed, repeated}
 
 le-by : (t : Bool) (b : ℕ) (l s : List ℕ) → length l ≤ length s → length (cond t [] (b ∷ l)) ≤ suc (length s)
 le-by true b l s h = omega arith
@@ -211,6 +213,18 @@ buffer-more k b h p s n =
             | no ne ↦ p .apart i j g (omega arith) e
           ];
     }
+
+-- what is told of a buffer that stands, and of one with a wrong label; and that none is both
+pub labels-stand : {n : ℕ} {b : List ℕ} → BufferStands n b → LabelsTold n b true
+labels-stand p = record { stand = λ e. p; wrong = λ e. clash refl e }
+
+pub labels-wrong : {n : ℕ} {b : List ℕ} → WrongIn n b → LabelsTold n b false
+labels-wrong w = record { stand = λ e. clash e refl; wrong = λ e. w }
+
+pub buffer-right : (n : ℕ) (b : List ℕ) → length b ≡ width * n → BufferStands n b → WrongIn n b → ⊥
+buffer-right n b h p (malformed k g none) =
+    let s = p .forms k g in none (labelOf (slot b k)) (s .form) (slot-good (slot b k) (slot-length b k (omega arith)) s)
+buffer-right n b h p (repeated k g r) = p .apart (r .earlier) k (r .before) g (r .alike)
 
 -- a label's line
 pub line-length : (l : List ℕ) → length (ended l) ≡ length l + 1

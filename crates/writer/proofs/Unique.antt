@@ -4,7 +4,7 @@ use mathlib.Core.List.{List}
 use Prim.Native.Nat.{ℕ}
 use lib.ListN.{length}
 use Rattle.orders.specs.Refusals.{numberOf, valuesOf, Said, gives}
-use Rattle.orders.proofs.Refusals.{lowest-clear, refused-once, refusal-once, given-once, not-both}
+use Rattle.orders.proofs.Refusals.{first-clear, refused-once, refusal-once, given-once, not-both}
 use Rattle.sheet.specs.Text.{over}
 use Rattle.sheet.specs.Sheet.{Labelled, sheetOf}
 use Rattle.sheet.proofs.Slots.{slots-once}
@@ -38,8 +38,8 @@ pub record Same (a b : Said ℕ) (m n : List ℕ) : Type 0 where
 pub promise-once : (h : Model) (o p q : List ℕ) (a b : Said ℕ) → WritePromise h o p a → WritePromise h o q b → Same a b p q
 promise-once h o p q a b (refused j l e m) (refused k l′ e′ m′) =
     record { answer = refused-once (writer-tests h o) l e l′ e′; memory = m ∙ sym m′ }
-promise-once h o p q a b (refused j l e m) (wrote t c i e′ m′) = absurd (lowest-clear (writer-tests h o) j l c)
-promise-once h o p q a b (wrote t c i e m) (refused k l e′ m′) = absurd (lowest-clear (writer-tests h o) k l c)
+promise-once h o p q a b (refused j l e m) (wrote t c i e′ m′) = absurd (first-clear (writer-tests h o) j l c)
+promise-once h o p q a b (wrote t c i e m) (refused k l e′ m′) = absurd (first-clear (writer-tests h o) k l c)
 promise-once h o p q a b (wrote t c i e m) (wrote t′ c′ i′ e′ m′) =
     let u : t ≡ t′ = labelling-once h t t′ i i′ in
     record {

@@ -1,7 +1,7 @@
 -- What the functions inside the writer tell each other.
 use mathlib.Core.Path.{_≡_}
 use mathlib.Core.Logic.{_≢_}
-use mathlib.Core.Bool.{cond}
+use mathlib.Core.Bool.{Bool, true, false, cond}
 use mathlib.Core.List.{List, [], _∷_, _++_}
 use Prim.Native.Nat.{ℕ, zero, suc, _+_, _*_, _≤_, _<_}
 use lib.Dec.{eqb}
@@ -12,6 +12,7 @@ use Rattle.theory.specs.Table.{Present, Order, Entries}
 use Rattle.sheet.specs.Text.{text, ended, rowsHead, colsHead}
 use Rattle.sheet.specs.Sheet.{labelLines, orderSection}
 use Rattle.sheet.specs.Labels.{width, Form, slot}
+use Rattle.writer.specs.Promise.{WrongIn}
 
 -- the bytes before the first zero byte
 unfoldable pub labelOf : List ℕ → List ℕ
@@ -32,6 +33,11 @@ pub record SlotStands (s : List ℕ) : Type 0 where
 pub record BufferStands (n : ℕ) (b : List ℕ) : Type 0 where
   pub forms : (k : ℕ) → k < n → SlotStands (slot b k)
   pub apart : (i k : ℕ) → i < k → k < n → slot b i ≢ slot b k
+
+-- r tells whether the first n places of a buffer hold labels, or one of these is malformed or repeated
+pub record LabelsTold (n : ℕ) (b : List ℕ) (r : Bool) : Type 0 where
+  pub stand : r ≡ true → BufferStands n b
+  pub wrong : r ≡ false → WrongIn n b
 
 -- a table that was tested: its size, its length and its entries
 pub record Tested (n : ℕ) (t : List ℤ) : Type 0 where

@@ -1,13 +1,14 @@
 -- The writer's promise.
 use mathlib.Core.Path.{_≡_}
+use mathlib.Core.Logic.{_⊎_}
 use mathlib.Core.List.{List, [], _∷_}
 use Prim.Native.Nat.{ℕ, _*_, _<_}
 use lib.IntN.{ℤ}
 use lib.ListN.{length}
-use Rattle.orders.specs.Refusals.{Said, gives, refuses, refusal, Test, _given-when_, Lowest, Clear}
+use Rattle.orders.specs.Refusals.{Said, gives, refuses, refusal, Test, _given-when_, First, Clear, Slice, _wanted_, WrongLength}
 use Rattle.handed.specs.Conditions.{OutOfSize, WrongEntry}
 use Rattle.sheet.specs.Text.{over}
-use Rattle.sheet.specs.Labels.{width, Labels, slots}
+use Rattle.sheet.specs.Labels.{width, Form, Labels, filled, slots, slot, Repeated}
 use Rattle.sheet.specs.Sheet.{Labelled, sheetOf}
 use Rattle.writer.specs.declared.Written.{Written}
 use Rattle.writer.specs.declared.Written.the-variants.{Bytes, Refused}
@@ -33,9 +34,12 @@ pub record Wanted (h : Model) : Type 0 where
   pub rows-length : length (h .row-labels) ≡ width * h .n
   pub cols-length : length (h .col-labels) ≡ width * h .n
 
--- 2: "a lent slice isn't of the wanted length"
-abbrev pub WrongLength : Model → Type 0
-WrongLength h = Wanted h → ⊥
+-- the same for refusal 2
+abbrev pub slices : Model → List Slice
+slices h =
+    length (h .table) wanted h .n * h .n ∷
+    length (h .row-labels) wanted width * h .n ∷
+    length (h .col-labels) wanted width * h .n ∷ []
 
 -- what is handed is the labelled table t: each label of its form, "filled up with zero bytes", and unlike the others of its section
 pub record Labelling (h : Model) (t : Labelled) : Type 0 where
@@ -45,9 +49,15 @@ pub record Labelling (h : Model) (t : Labelled) : Type 0 where
   pub cols-stand : Labels (t .col-labels)
   pub entries-are : t .entries ≡ h .table
 
--- 11: "a label handed to the writer is malformed or repeated": no labelled table is what is handed
+-- a label of one section "is malformed or repeated": the bytes in its place of the buffer are those of no label "filled up with zero
+-- bytes", or stand in an earlier place too
+pub data WrongIn (n : ℕ) (b : List ℕ) : Type 0 where
+  malformed : (k : ℕ) → k < n → ((l : List ℕ) → Form l → slot b k ≡ filled l → ⊥) → WrongIn n b
+  repeated : (k : ℕ) → k < n → Repeated b k → WrongIn n b
+
+-- 11: "a label handed to the writer is malformed or repeated"
 abbrev pub WrongLabel : Model → Type 0
-WrongLabel h = (t : Labelled) → Labelling h t → ⊥
+WrongLabel h = WrongIn (h .n) (h .row-labels) ⊎ WrongIn (h .n) (h .col-labels)
 
 -- 12: "the sheet doesn't fit the writer's lent room"
 abbrev pub NoRoom : Model → List ℕ → Type 0
@@ -57,15 +67,15 @@ NoRoom h room = (t : Labelled) × Labelling h t × (length room < length (sheetO
 abbrev pub writer-tests : Model → List ℕ → List Test
 writer-tests h room =
     1 given-when OutOfSize (h .n) ∷
-    2 given-when WrongLength h ∷
+    2 given-when WrongLength (slices h) ∷
     3 given-when WrongEntry (h .table) ∷
     11 given-when WrongLabel h ∷
     12 given-when NoRoom h room ∷ []
 
 -- What is handed, the room at the call, the room after it, and the answer. Either some refusal that concerns the writer applies: then
--- the lowest is returned and "each lent buffer then holds what it held at the call". Or none does: then the length of the sheet is
--- returned, the sheet stands at the front of the room, and "bytes after the sheet stay".
+-- the first, which is the lowest, is returned and "each lent buffer then holds what it held at the call". Or none does: then the
+-- length of the sheet is returned, the sheet stands at the front of the room, and "bytes after the sheet stay".
 pub data WritePromise (h : Model) (room room′ : List ℕ) (a : Said ℕ) : Type 0 where
-  refused : (k : ℕ) → Lowest (writer-tests h room) k → a ≡ refuses k [] → room′ ≡ room → WritePromise h room room′ a
+  refused : (k : ℕ) → First (writer-tests h room) k → a ≡ refuses k [] → room′ ≡ room → WritePromise h room room′ a
   wrote : (t : Labelled) → Clear (writer-tests h room) → Labelling h t → a ≡ gives (length (sheetOf t)) → room′ ≡ over (sheetOf t) room
       → WritePromise h room room′ a

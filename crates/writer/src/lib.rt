@@ -9,7 +9,7 @@ ghost use Rattle.theory.specs.Table.{Order};
 ghost use Rattle.sheet.specs.Text.{text, signed, ended, blank};
 ghost use Rattle.sheet.specs.Sheet.{presentCount, labelLines, orderLine, orderLines, orderSection};
 ghost use Rattle.lettering.specs.Putting.{Puts};
-ghost use Rattle.writer.specs.Parts.{labelOf, labelsOf, SlotStands, BufferStands, Tested, EntryTested, restText, sheetText};
+ghost use Rattle.writer.specs.Parts.{labelOf, labelsOf, SlotStands, LabelsTold, Tested, EntryTested, restText, sheetText};
 ghost use Rattle.writer.specs.Promise.{WritePromise, model, says};
 use lettering::digits;
 use lettering::magnitude;
@@ -70,10 +70,10 @@ fn slot_stands(slot: &[u8]) -> bool
     }
 }
 
-// Does a buffer hold n labels, each of its form and unlike the others? Rules out two labels alike.
+// Does a buffer hold n labels, each of its form and unlike the others? Rules out two labels alike, and a refusal of labels that stand.
 fn labels_stand(n: usize, labels: &[u8]) -> bool
     requires { ⌜ width * n ≤ length (now labels) ⌝ }
-    ensures { λ r. ⌜ Tells r (BufferStands n (now (labels .entry))) ⌝ }
+    ensures { λ r. ⌜ LabelsTold n (now (labels .entry)) r ⌝ }
 {
     let mut k = 0;
     while k < n {

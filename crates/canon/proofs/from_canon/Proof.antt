@@ -10,6 +10,7 @@ use mir.Syntax.{w32}
 use mir.Facts.{toZ-ofZ}
 use Rattle.orders.specs.Refusals.{gives}
 use Rattle.handed.specs.Handed.{Sound}
+use Rattle.handed.proofs.Basics.{additions-right}
 use Rattle.canon.proofs.Refusing.{refuse-first, refuse-later, lent, given-additions}
 use Rattle.canon.proofs.Answering.{routed}
 use Rattle.canon.proofs.from_canon.Statement.{statement}
@@ -35,16 +36,16 @@ additions-stand-requires : tie.Need-additions-stand-requires
 additions-stand-requires c κs = search needs
 
 returns-2 : tie.Need-returns-2
-returns-2 c = refuse-later (passed (c .before .before)) 4 (inl (c .before .additions-stand .ensures .fails (not-true _ (c .if1 .taken)), refl)) refl
+returns-2 c = refuse-later (passed (c .before .before)) 4 (inl (c .before .additions-stand .ensures .above (not-true _ (c .if1 .taken)), refl)) refl
 
 from-additions-requires : tie.Need-from-additions-requires
-from-additions-requires c κs = given-additions (passed (c .before .before)) (c .before .additions-stand .ensures .holds (not-false _ (c .if1 .left)))
+from-additions-requires c κs = given-additions (passed (c .before .before)) (c .before .additions-stand .ensures .within (not-false _ (c .if1 .left)))
 
 returns-3 : tie.Need-returns-3
 returns-3 c =
     let e = c .before .before .before in
     refuse-later (passed (e .before .before)) 6
-    (inr ((λ wrong. wrong (e .before .additions-stand .ensures .holds (not-false _ (e .if1 .left)))), inl (c .before .before .from-additions .ensures .none (not-true _ (c .if2 .taken)), refl)))
+    (inr (additions-right (e .before .additions-stand .ensures .within (not-false _ (e .if1 .left))), inl (c .before .before .from-additions .ensures .none (not-true _ (c .if2 .taken)), refl)))
     refl
 
 returns-4 : tie.Need-returns-4
@@ -54,7 +55,7 @@ returns-4 c =
     let r = d .before .before .from-additions .ensures in
     let found = not-false _ (d .if2 .left) in
     refuse-later (passed (e .before .before)) 7
-    (inr ((λ wrong. wrong (e .before .additions-stand .ensures .holds (not-false _ (e .if1 .left)))), inr ((λ none. none _ (r .exists found .1)), inl (r .no-canon found (not-true _ (c .if3 .taken)), refl))))
+    (inr (additions-right (e .before .additions-stand .ensures .within (not-false _ (e .if1 .left))), inr ((λ none. none _ (r .exists found .1)), inl (r .no-canon found (not-true _ (c .if3 .taken)), refl))))
     refl
 
 delivered-requires : tie.Need-delivered-requires
@@ -83,7 +84,7 @@ returns-5 c =
     let r = d .before .before .from-additions .ensures in
     let canon = not-false _ (h .if3 .left) in
     routed (passed (e .before .before))
-    ((λ wrong. wrong (e .before .additions-stand .ensures .holds (not-false _ (e .if1 .left)))), ((λ none. none _ (r .exists (not-false _ (d .if2 .left)) .1)), ((λ no-one. no-one (r .is-canon canon)), tt)))
+    (additions-right (e .before .additions-stand .ensures .within (not-false _ (e .if1 .left))), ((λ none. none _ (r .exists (not-false _ (d .if2 .left)) .1)), ((λ no-one. no-one (r .is-canon canon)), tt)))
     (ap gives (toZ-ofZ {w = w32} {z = p .delivered .result} (sfits-of (p .delivered .ok)))) (r .least canon .simplest) (p .delivered .ensures)
 
 pub from-canon-spec : {M : Type 1} → statement M

@@ -11,6 +11,7 @@ use mir.Facts.{toZ-ofZ}
 use Rattle.theory.proofs.Unique.{misplaced-same}
 use Rattle.orders.specs.Refusals.{gives}
 use Rattle.handed.specs.Handed.{Sound}
+use Rattle.handed.proofs.Basics.{stars-right}
 use Rattle.canon.proofs.Refusing.{refuse-first, refuse-later, lent, given-columns}
 use Rattle.canon.proofs.Answering.{routed}
 use Rattle.canon.proofs.from_stars.Statement.{statement}
@@ -48,7 +49,7 @@ returns-3 c =
     let e = c .before .before .before .before .before .before in
     let l = e .before .before .listed-marks .ensures in
     refuse-later (passed (e .before .before .before)) 6
-    (inr ((λ wrong. wrong (l .star-list (not-false _ (e .if1 .left)))), inl (c .before .before .from-columns .ensures .none (not-true _ (c .if2 .taken)), refl))) refl
+    (inr (stars-right (l .star-list (not-false _ (e .if1 .left))), inl (c .before .before .from-columns .ensures .none (not-true _ (c .if2 .taken)), refl))) refl
 
 returns-4 : tie.Need-returns-4
 returns-4 c =
@@ -59,7 +60,7 @@ returns-4 c =
     let found = not-false _ (d .if2 .left) in
     let r = d .before .before .from-columns .ensures in
     refuse-later (passed (e .before .before .before)) 8
-    (inr ((λ wrong. wrong (l .star-list stands)), inr ((λ none. none _ (r .exists found .1)), inl (misplaced-same _ _ (l .same stands) (r .misplaced found (not-true _ (c .if3 .taken))), refl))))
+    (inr (stars-right (l .star-list stands), inr ((λ none. none _ (r .exists found .1)), inl (misplaced-same _ _ (l .same stands) (r .misplaced found (not-true _ (c .if3 .taken))), refl))))
     refl
 
 delivered-requires : tie.Need-delivered-requires
@@ -93,7 +94,7 @@ returns-5 c =
     let stands = not-false _ (e .if1 .left) in
     let greatest = not-false _ (h .if3 .left) in
     routed (passed (e .before .before .before))
-    ((λ wrong. wrong (l .star-list stands)), ((λ none. none _ (r .of-maxima greatest .transversal)), ((λ m. r .placed greatest (misplaced-same _ _ (λ i hi. sym (l .same stands i hi)) m)), tt)))
+    (stars-right (l .star-list stands), ((λ none. none _ (r .of-maxima greatest .transversal)), ((λ m. r .placed greatest (misplaced-same _ _ (λ i hi. sym (l .same stands i hi)) m)), tt)))
     (ap gives (toZ-ofZ {w = w32} {z = p .delivered .result} (sfits-of (p .delivered .ok)))) (r .simplest greatest) (p .delivered .ensures)
 
 pub from-stars-spec : {M : Type 1} → statement M

@@ -1,4 +1,5 @@
 -- The additions are tested one after the other. Assumes nothing.
+use mathlib.Core.Path.{refl}
 use Prim.Native.Nat.{ℕ, _-_, _≤_, _<_}
 use native.Mathlib.Omega.{arith}
 use borrow.Author.Count.{below-more}
@@ -6,7 +7,7 @@ use borrow.Author.Needs.{needs}
 use lib.ListN.{length}
 use Rattle.theory.specs.Limits.{handed}
 use Rattle.theory.specs.Lists.{nums}
-use Rattle.orders.proofs.Entries.{tells-yes, tells-no}
+use Rattle.orders.proofs.Entries.{clash}
 use Rattle.handed.proofs.additions_stand.Statement.{statement}
 use Rattle.handed.proofs.additions_stand.Tie as tie
 
@@ -27,8 +28,14 @@ shared-slice-read-if1 c = search needs
 
 returns : tie.Need-returns Inv-loop μ-loop
 returns c =
-    let i = c .before .before .before .loop .i in
-    tells-no (λ all. omega (arith, all i (c .before .before .loop-test .taken), c .if1 .taken))
+    record {
+      within = λ e. clash e refl;
+      above = λ e. record {
+        row = c .before .before .before .loop .i;
+        inside = c .before .before .loop-test .taken;
+        above = omega (arith, c .if1 .taken);
+      };
+    }
 
 add-i : tie.Need-add-i Inv-loop μ-loop
 add-i c = search needs
@@ -40,7 +47,7 @@ loop-again : tie.Need-loop-again Inv-loop μ-loop
 loop-again c = (omega arith, below-more _ _ (c .before .before .before .loop .inv .1) (omega (arith, c .if1 .left)))
 
 returns-2 : tie.Need-returns-2 Inv-loop μ-loop
-returns-2 c = tells-yes (λ i h. c .before .loop .inv .1 i (omega arith))
+returns-2 c = record { within = λ e i h. c .before .loop .inv .1 i (omega arith); above = λ e. clash refl e }
 
 pub additions-stand-spec : {M : Type 1} → statement M
 additions-stand-spec =

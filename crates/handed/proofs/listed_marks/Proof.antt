@@ -29,13 +29,13 @@ returns : tie.Need-returns Inv-loop μ-loop
 returns c =
     let l = c .before .before .before .loop in
     let a = c .before .before .before .before .pre in
-    marked-wrong (marked-low (l .inv .1) (a .0) (c .before .before .loop-test .taken) (c .if1 .taken))
+    marked-wrong (marked-low (l .inv .1) (a .0) (c .before .before .loop-test .taken) (a .1) (c .if1 .taken))
 
 returns-2 : tie.Need-returns-2 Inv-loop μ-loop
 returns-2 c =
     let l = c .before .before .before .before .loop in
     let a = c .before .before .before .before .before .pre in
-    marked-wrong (marked-high (l .inv .1) (a .0) (c .before .before .before .loop-test .taken) (c .if2 .taken))
+    marked-wrong (marked-high (l .inv .1) (a .0) (c .before .before .before .loop-test .taken) (a .1) (c .if2 .taken))
 
 sub-if3 : tie.Need-sub-if3 Inv-loop μ-loop
 sub-if3 c = omega (arith, c .before .if1 .left)
@@ -50,7 +50,7 @@ returns-3 : tie.Need-returns-3 Inv-loop μ-loop
 returns-3 c =
     let l = c .before .before .before .before .before .loop in
     let a = c .before .before .before .before .before .before .pre in
-    marked-wrong (marked-twice (l .inv .1) (a .0) (c .before .before .before .before .loop-test .taken)
+    marked-wrong (marked-twice (l .inv .1) (a .0) (c .before .before .before .before .loop-test .taken) (a .1)
     (omega (arith, c .before .before .if1 .left)) (omega (arith, c .before .if2 .left)) (c .if3 .taken))
 
 sub-rows : tie.Need-sub-rows Inv-loop μ-loop

@@ -1,4 +1,5 @@
 -- The reader tests lengths, walks the sheet, and copies out what was kept. Assumes nothing.
+use mathlib.Core.Logic.{inl, inr}
 use borrow.Author.Needs.{needs}
 use native.Mathlib.Omega.{arith}
 use Rattle.reader.specs.Promise.{lent}
@@ -8,13 +9,13 @@ use Rattle.reader.proofs.read_sheet.Statement.{statement}
 use Rattle.reader.proofs.read_sheet.Tie as tie
 
 returns : tie.Need-returns
-returns c = refuse-length _ _ (λ w. c .if1 .taken (w .table-length))
+returns c = refuse-length _ _ (inl (c .if1 .taken))
 
 returns-2 : tie.Need-returns-2
-returns-2 c = refuse-length _ _ (λ w. c .if2 .taken (w .rows-length))
+returns-2 c = refuse-length _ _ (inr (inl (c .if2 .taken)))
 
 returns-3 : tie.Need-returns-3
-returns-3 c = refuse-length _ _ (λ w. c .if3 .taken (w .cols-length))
+returns-3 c = refuse-length _ _ (inr (inr (inl (c .if3 .taken))))
 
 returns-4 : tie.Need-returns-4
 returns-4 c =

@@ -2,13 +2,13 @@
 use borrow.Author.Needs.{needs}
 use native.Mathlib.Omega.{arith}
 use Prim.Native.Nat.{_+_, _-_, _*_, _≤_}
-use mathlib.Core.Path.{_≡_, refl, subst, subst⁻¹}
+use mathlib.Core.Path.{_≡_, refl, subst, subst⁻¹, _∙_}
 use lib.ListN.{length}
-use Rattle.orders.proofs.Entries.{tells-yes, tells-no}
-use Rattle.writer.proofs.SlotLaws.{buffer-none, buffer-more}
+use Rattle.writer.proofs.SlotLaws.{filled-stands, buffer-none, buffer-more, labels-stand, labels-wrong}
 use borrow.Author.Tests.{not-true, not-false}
 use Rattle.sheet.proofs.Slots.{part-slot}
 use Rattle.writer.specs.Parts.{BufferStands, SlotStands}
+use Rattle.writer.specs.Promise.{malformed, repeated}
 use Rattle.writer.proofs.labels_stand.Statement.{statement}
 use Rattle.writer.proofs.labels_stand.Tie as tie
 
@@ -44,15 +44,17 @@ returns c = let slot-stands′ = c .before .slot-stands in
     let if1′ = c .if1 in
     let args′ = c .before .before .before .before .before .before .args in
     let loop′ = c .before .before .before .before .loop in
-    tells-no (λ b. slot-stands′ .ensures .fails (not-true _ (if1′ .taken)) (subst⁻¹ (λ x. SlotStands x) (part-slot
-    (args′ .labels .now) (8 * loop′ .k) (8 * loop′ .k + 8) (loop′ .k) refl refl) (b .forms (loop′ .k) (omega arith))))
+    labels-wrong (malformed (loop′ .k) (omega arith)
+    (λ l f e.
+    slot-stands′ .ensures .fails (not-true _ (if1′ .taken))
+    (subst⁻¹ (λ x. SlotStands x) (part-slot (args′ .labels .now) (8 * loop′ .k) (8 * loop′ .k + 8) (loop′ .k) refl refl ∙ e) (filled-stands l f))))
 
 repeated-requires : tie.Need-repeated-requires Inv-loop μ-loop
 repeated-requires c κs = search needs
 
 returns-2 : tie.Need-returns-2 Inv-loop μ-loop
-returns-2 c = tells-no (λ b. let r = c .before .repeated .ensures .holds (c .if2 .taken) in b .apart (r .earlier)
-    (c .before .before .before .before .before .before .loop .k) (r .before) (omega arith) (r .alike))
+returns-2 c =
+    labels-wrong (repeated (c .before .before .before .before .before .before .loop .k) (omega arith) (c .before .repeated .ensures .holds (c .if2 .taken)))
 
 add-k : tie.Need-add-k Inv-loop μ-loop
 add-k c = search needs
@@ -77,7 +79,7 @@ loop-again c = let loop′ = c .before .before .before .before .before .before .
 
 returns-3 : tie.Need-returns-3 Inv-loop μ-loop
 returns-3 c = let e : c .before .loop .k ≡ c .before .before .before .args .n = omega arith in
-    tells-yes (subst (λ x. BufferStands x (c .before .before .before .args .labels .now)) e (c .before .loop .inv .2))
+    labels-stand (subst (λ x. BufferStands x (c .before .before .before .args .labels .now)) e (c .before .loop .inv .2))
 
 pub labels-stand-spec : {M : Type 1} → statement M
 labels-stand-spec =

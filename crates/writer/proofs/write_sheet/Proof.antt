@@ -6,11 +6,11 @@ use borrow.Author.Tests.{not-true, not-false}
 use Rattle.theory.specs.Limits.{order}
 use Rattle.theory.specs.Table.{Entries}
 use Rattle.handed.specs.Conditions.{OutOfSize}
-use Rattle.handed.proofs.Basics.{in-size}
+use Rattle.handed.proofs.Basics.{in-size, wrong-entry}
 use Rattle.writer.specs.Parts.{BufferStands}
 use Rattle.writer.specs.Promise.{Model, model, Wanted}
 use Rattle.writer.proofs.Refusing.{refuse-size, refuse-length, refuse-entry, refuse-label}
-use Rattle.writer.proofs.SheetLaws.{tested, rows-fail, cols-fail, write-refused, write-good}
+use Rattle.writer.proofs.SheetLaws.{tested, write-refused, write-good}
 use Rattle.writer.proofs.OrderLaws.{square-few}
 use Rattle.writer.proofs.write_sheet.Statement.{statement}
 use Rattle.writer.proofs.write_sheet.Tie as tie
@@ -31,11 +31,11 @@ entries : (c : tie.Else6) → Entries order (given (c .before .before) .table)
 entries c = c .before .entries-stand .ensures .holds (not-false _ (c .if6 .left))
 
 row-labels : (c : tie.Else7) → BufferStands (given (c .before .before .before .before) .n) (given (c .before .before .before .before) .row-labels)
-row-labels c = c .before .labels-stand .ensures .holds (not-false _ (c .if7 .left))
+row-labels c = c .before .labels-stand .ensures .stand (not-false _ (c .if7 .left))
 
 col-labels : (c : tie.Else8)
     → BufferStands (given (c .before .before .before .before .before .before) .n) (given (c .before .before .before .before .before .before) .col-labels)
-col-labels c = c .before .labels-stand2 .ensures .holds (not-false _ (c .if8 .left))
+col-labels c = c .before .labels-stand2 .ensures .stand (not-false _ (c .if8 .left))
 
 returns : tie.Need-returns
 returns c = refuse-size _ _ (inl (c .if1 .taken))
@@ -47,20 +47,20 @@ mul-if3 : tie.Need-mul-if3
 mul-if3 c = omega (arith, square-few (c .before .before .before .before .before .args .n) (c .if2 .left))
 
 returns-3 : tie.Need-returns-3
-returns-3 c = refuse-length _ _ (in-size (c .before .before .if1 .left) (c .before .if2 .left)) (λ w. c .if3 .taken (w .table-length))
+returns-3 c = refuse-length _ _ (in-size (c .before .before .if1 .left) (c .before .if2 .left)) (inl (c .if3 .taken))
 
 mul-if4 : tie.Need-mul-if4
 mul-if4 c = search needs
 
 returns-4 : tie.Need-returns-4
-returns-4 c = refuse-length _ _ (in-size (c .before .before .before .if1 .left) (c .before .before .if2 .left)) (λ w. c .if4 .taken (w .rows-length))
+returns-4 c = refuse-length _ _ (in-size (c .before .before .before .if1 .left) (c .before .before .if2 .left)) (inr (inl (c .if4 .taken)))
 
 mul-if5 : tie.Need-mul-if5
 mul-if5 c = search needs
 
 returns-5 : tie.Need-returns-5
 returns-5 c =
-    refuse-length _ _ (in-size (c .before .before .before .before .if1 .left) (c .before .before .before .if2 .left)) (λ w. c .if5 .taken (w .cols-length))
+    refuse-length _ _ (in-size (c .before .before .before .before .if1 .left) (c .before .before .before .if2 .left)) (inr (inr (inl (c .if5 .taken))))
 
 entries-stand-requires : tie.Need-entries-stand-requires
 entries-stand-requires c κs = search needs
@@ -68,7 +68,7 @@ entries-stand-requires c κs = search needs
 returns-6 : tie.Need-returns-6
 returns-6 c =
     let tested′ = c .before .before in
-    refuse-entry (given tested′) _ (size tested′) (lengths tested′) (c .before .entries-stand .ensures .fails (not-true _ (c .if6 .taken)))
+    refuse-entry (given tested′) _ (size tested′) (lengths tested′) (wrong-entry _ (c .before .entries-stand .ensures .fails (not-true _ (c .if6 .taken))))
 
 labels-stand-requires : tie.Need-labels-stand-requires
 labels-stand-requires c κs = omega (arith, c .before .before .before .if4 .left)
@@ -77,7 +77,7 @@ returns-7 : tie.Need-returns-7
 returns-7 c =
     let tested′ = c .before .before .before .before in
     refuse-label (given tested′) _ (size tested′) (lengths tested′) (entries (c .before .before))
-    (rows-fail _ _ _ _ (size tested′) (lengths tested′) (c .before .labels-stand .ensures .fails (not-true _ (c .if7 .taken))))
+    (inl (c .before .labels-stand .ensures .wrong (not-true _ (c .if7 .taken))))
 
 labels-stand-requires-2 : tie.Need-labels-stand-requires-2
 labels-stand-requires-2 c κs = omega (arith, c .before .before .before .before .if5 .left)
@@ -86,7 +86,7 @@ returns-8 : tie.Need-returns-8
 returns-8 c =
     let tested′ = c .before .before .before .before .before .before in
     refuse-label (given tested′) _ (size tested′) (lengths tested′) (entries (c .before .before .before .before))
-    (cols-fail _ _ _ _ (size tested′) (lengths tested′) (c .before .labels-stand2 .ensures .fails (not-true _ (c .if8 .taken))))
+    (inr (c .before .labels-stand2 .ensures .wrong (not-true _ (c .if8 .taken))))
 
 sheet-length-requires : tie.Need-sheet-length-requires
 sheet-length-requires c κs =

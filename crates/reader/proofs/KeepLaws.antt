@@ -8,7 +8,6 @@ use native.Mathlib.Nat.{mul-le-mul}
 use lib.IntN.{ℤ}
 use lib.ListN.{length, getD, take, drop, set, replicate, length-append, length-replicate, replicate-append-replicate}
 use lib.Seq.{take-at, take-length, take-append-add, drop-append-add, set-split, paste, append-snoc}
-use denote.Enum.Declared.{tagOf}
 use Rattle.orders.specs.Tested.{Tells}
 use Rattle.theory.specs.Limits.{rows}
 use Rattle.theory.specs.Table.{absent}
@@ -17,10 +16,7 @@ use Rattle.sheet.specs.Reading.{State, After, heading, row-label, col-label, or
 use Rattle.sheet.proofs.Bytes.{clash}
 use Rattle.sheet.proofs.Slots.{Short, labels-short, slots-length, slots-append, slot-at, filled-once, labels-more, length-more}
 use Rattle.sheet.proofs.Orders.{cell}
-use Rattle.reader.specs.declared.Place.{Place}
-use Rattle.reader.specs.declared.Place.the-variants.{At, Nothing as NoPlace}
 use Rattle.reader.specs.Parts.{OrderIs, Holding, LabelKept, Store, store, Holds, Due, LineKept}
-use Rattle.reader.proofs.Place.{the-type as place-type}
 
 -- parts of a run of one value
 pub take-replicate : {A : Type 0} (k n : ℕ) (a : A) → k ≤ n → take k (replicate n a) ≡ replicate k a
@@ -170,10 +166,6 @@ place-small n i j h p q = omega (arith, cell n i j p q, mul-le-mul {n₁ = n} {m
 
 pub row-small : (n i : ℕ) → n ≤ rows → i < n → i * n ≤ rows * rows
 row-small n i h p = mul-le-mul {n₁ = i} {m₁ = n} {n₂ = rows} {m₂ = rows} (omega arith) h
-
-pub is-no-place : (x : Place) → tagOf place-type x ≡ 1 → x ≡ NoPlace
-is-no-place NoPlace h = refl
-is-no-place (At i j v) h = absurd (omega arith)
 
 -- the ways an order line is kept or not
 module _ (kept : Store) (n m : ℕ) (l : List ℕ) (st : State) (h : Holds kept st) (d : Due 2 n 0 m st) where

@@ -1,4 +1,3 @@
-pub mod NumberLaws
 pub mod LineLaws
 pub mod KeepLaws
 pub mod WalkLaws

@@ -20,9 +20,9 @@ use Rattle.sheet.specs.Text.{feed}
 use Rattle.sheet.specs.Reading.{State, start, Heading, Ended, After, heading, row-label, col-label, order-line, begun, Final, Outcome, wrong, Reads, short, unfit, next}
 use Rattle.sheet.proofs.Lines.{Unbroken, Cut, unbroken, broken, cut}
 use Rattle.sheet.proofs.Slots.{length-more, labels-none, labels-short}
+use Rattle.fields.specs.Fields.{LineEnd}
 use Rattle.reader.specs.declared.Walked.{Walked}
-use Rattle.reader.specs.declared.Count.the-variants.{Nothing as NoCount}
-use Rattle.reader.specs.Parts.{LineEnd, HeadingOf, Store, store, Holds, Due, Within, LineKept, WalkTells}
+use Rattle.reader.specs.Parts.{Store, store, Holds, Due, Within, LineKept, WalkTells}
 use Rattle.reader.proofs.KeepLaws.{holding-length}
 
 -- where the walk is: the bytes passed, the number of the next line, and that a reading of the rest is a reading of the whole
@@ -145,7 +145,7 @@ module _ (s : List ℕ) (kept : Store) (n section line at : ℕ) (u : Outer s ke
   pub outer-lack : (e : ℕ) → section < 3 → LineEnd (drop at s) e → at + e ≡ length s → Reads start 1 s (wrong line)
   outer-lack e g l z = lack s (u .st) line at e (u .reached) l z (λ f. omega (arith, f .last, u .section-is))
 
-  pub outer-halt : (e : ℕ) → LineEnd (drop at s) e → at + e ≢ length s → HeadingOf (take (at + e - at) (drop at s)) section n NoCount
+  pub outer-halt : (e : ℕ) → LineEnd (drop at s) e → at + e ≢ length s → ((c : ℕ) → Heading section n c (take (at + e - at) (drop at s)) → ⊥)
       → Reads start 1 s (wrong line)
   outer-halt e l more h =
       halt s (u .st) line at e (u .reached) l more

@@ -9,61 +9,14 @@ use lib.IntN.{ℤ}
 use lib.ListN.{length, getD, drop, replicate}
 use Rattle.theory.specs.Limits.{rows, order}
 use Rattle.theory.specs.Table.{absent, Order}
-use Rattle.sheet.specs.Text.{feed, blank, text, signed}
 use Rattle.sheet.specs.Labels.{width, Form, New, Labels, slots}
 use Rattle.sheet.specs.Sheet.{orderText}
 use Rattle.sheet.specs.Reading.{State, start, Heading, After, Final, Outcome, wrong, Reads}
-use Rattle.reader.specs.declared.Front.{Front}
-use Rattle.reader.specs.declared.Front.the-variants.{Number, Nothing as NoFront}
-use Rattle.reader.specs.declared.Count.{Count}
-use Rattle.reader.specs.declared.Count.the-variants.{Of, Nothing as NoCount}
-use Rattle.reader.specs.declared.Value.{Value}
-use Rattle.reader.specs.declared.Value.the-variants.{Is, Nothing as NoValue}
+use Rattle.fields.specs.declared.Unsigned.{Unsigned}
+use Rattle.fields.specs.Fields.{UnsignedOf}
 use Rattle.reader.specs.declared.Place.{Place}
 use Rattle.reader.specs.declared.Place.the-variants.{At, Nothing as NoPlace}
 use Rattle.reader.specs.declared.Walked.{Walked}
-
--- the first line feed of s is at r, or s has none and r is its length
-pub record LineEnd (s : List ℕ) (r : ℕ) : Type 0 where
-  pub inside : r ≤ length s
-  pub before : (k : ℕ) → k < r → getD s k 0 ≢ feed
-  pub here : r < length s → getD s r 0 ≡ feed
-
--- s does not begin with a digit
-abbrev pub NoDigit : List ℕ → Type 0
-NoDigit s = 0 < length s → (48 ≤ getD s 0 0) × (getD s 0 0 ≤ 57) → ⊥
-
--- the number at the front of s
-pub record FrontIs (s : List ℕ) (limit v next : ℕ) : Type 0 where
-  pub small : v ≤ limit
-  pub inside : next ≤ length s
-  pub parts : s ≡ text v ++ drop next s
-  pub stops : NoDigit (drop next s)
-
-abbrev pub FrontOf : List ℕ → ℕ → Front → Type 0
-FrontOf s limit (Number v next) = FrontIs s limit v next
-FrontOf s limit NoFront = (v : ℕ) (x : List ℕ) → v ≤ limit → NoDigit x → s ≡ text v ++ x → ⊥
-
--- the number that s is
-abbrev pub CountOf : List ℕ → ℕ → Count → Type 0
-CountOf s limit (Of v) = (v ≤ limit) × (s ≡ text v)
-CountOf s limit NoCount = (v : ℕ) → v ≤ limit → s ≡ text v → ⊥
-
--- a number from 1 on with a blank after it
-pub record FieldIs (s : List ℕ) (limit v next : ℕ) : Type 0 where
-  pub some : 1 ≤ v
-  pub small : v ≤ limit
-  pub inside : next ≤ length s
-  pub parts : s ≡ text v ++ blank ∷ drop next s
-
-abbrev pub FieldOf : List ℕ → ℕ → Front → Type 0
-FieldOf s limit (Number v next) = FieldIs s limit v next
-FieldOf s limit NoFront = (v : ℕ) (x : List ℕ) → 1 ≤ v → v ≤ limit → s ≡ text v ++ blank ∷ x → ⊥
-
--- the order that s is
-abbrev pub ValueOf : List ℕ → Value → Type 0
-ValueOf s (Is v) = Order order v × (s ≡ signed v)
-ValueOf s NoValue = (v : ℤ) → Order order v → s ≡ signed v → ⊥
 
 -- the order line that l is
 pub record OrderIs (n : ℕ) (l : List ℕ) (i j : ℕ) (v : ℤ) : Type 0 where
@@ -72,24 +25,14 @@ pub record OrderIs (n : ℕ) (l : List ℕ) (i j : ℕ) (v : ℤ) : Type 0 where
   pub order-stands : Order order v
   pub is : l ≡ orderText i j v
 
-abbrev pub PlaceOf : ℕ → List ℕ → Place → Type 0
-PlaceOf n l (At i j v) = OrderIs n l i j v
-PlaceOf n l NoPlace = (i j : ℕ) (v : ℤ) → OrderIs n l i j v → ⊥
-
--- the count after a heading's bytes
-pub record CountIs (l head : List ℕ) (low high c : ℕ) : Type 0 where
-  pub least : low ≤ c
-  pub most : c ≤ high
-  pub is : l ≡ head ++ text c
-
-abbrev pub AfterOf : List ℕ → List ℕ → ℕ → ℕ → Count → Type 0
-AfterOf l head low high (Of c) = CountIs l head low high c
-AfterOf l head low high NoCount = (c : ℕ) → CountIs l head low high c → ⊥
+-- the order line that was found has P; or none has
+pub record PlaceOf (P : ℕ → ℕ → ℤ → Type 0) (r : Place) : Type 0 where
+  pub found : (i j : ℕ) (v : ℤ) → r ≡ At i j v → P i j v
+  pub none : r ≡ NoPlace → (i j : ℕ) (v : ℤ) → P i j v → ⊥
 
 -- the count of a section's heading
-abbrev pub HeadingOf : List ℕ → ℕ → ℕ → Count → Type 0
-HeadingOf l section n (Of c) = Heading section n c l
-HeadingOf l section n NoCount = (c : ℕ) → Heading section n c l → ⊥
+abbrev pub HeadingOf : List ℕ → ℕ → ℕ → Unsigned → Type 0
+HeadingOf l section n r = UnsignedOf (λ c. Heading section n c l) r
 
 -- a label buffer of the reader holds these labels, and zero bytes after them
 abbrev pub Holding : List ℕ → List (List ℕ) → Type 0

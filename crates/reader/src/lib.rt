@@ -1,23 +1,25 @@
 ghost use mathlib.Core.Path.{_≡_};
-ghost use mathlib.Core.Bool.{true, false};
 ghost use mathlib.Core.List.{List, _++_};
 ghost use Prim.Native.Nat.{ℕ, _+_, _*_, _<_, _≤_};
 ghost use lib.ListN.{length, take, drop};
-ghost use Rattle.orders.specs.Tested.{Tells};
-ghost use Rattle.reader.specs.Parts.{LineEnd, FrontOf, CountOf, FieldOf, ValueOf, PlaceOf, AfterOf, HeadingOf, Holding, LabelKept, store, Holds, Due, Within, LineKept, WalkTells};
+ghost use Rattle.reader.specs.Parts.{OrderIs, PlaceOf, HeadingOf, Holding, LabelKept, store, Holds, Due, Within, LineKept, WalkTells};
 ghost use Rattle.theory.specs.Limits.{rows};
 ghost use Rattle.sheet.specs.Labels.{Labels, width};
 ghost use Rattle.sheet.specs.Reading.{State, start};
 ghost use lib.Seq.{paste};
 ghost use Rattle.reader.specs.Promise.{ReadPromise, lent, says};
+use fields::Front;
+use fields::Signed;
+use fields::Unsigned;
+use fields::count_after;
+use fields::line_end;
+use fields::number_field;
+use fields::signed_number;
 use orders::ABSENT;
 use orders::PLACES;
 use orders::ROWS;
 use orders::Refusal;
 use orders::SHEET;
-use sheet::BLANK;
-use sheet::FEED;
-use sheet::MINUS;
 use sheet::WIDTH;
 
 // The bytes of a label buffer.
@@ -30,24 +32,6 @@ const SIZE: usize = orders::ORDER as usize;
 pub enum Read {
     Rows(usize),
     Refused(Refusal),
-}
-
-// The number at the front of a text and the bytes that it takes; or nothing.
-enum Front {
-    Number { v: usize, next: usize },
-    Nothing,
-}
-
-// A text that is one number from end to end; or nothing.
-enum Count {
-    Of(usize),
-    Nothing,
-}
-
-// A text that is one order from end to end; or nothing.
-enum Value {
-    Is(i16),
-    Nothing,
 }
 
 // The order of a line, with its row and its column counted from 0; or nothing.
@@ -70,145 +54,20 @@ struct Walked {
     line: usize,
 }
 
-// The bytes before the first line feed; all of them where there is none. Rules out a later line feed taken for the first.
-fn line_end(s: &[u8]) -> usize
-    ensures { λ r. ⌜ LineEnd (now (s .entry)) r ⌝ }
-{
-    let mut i = 0;
-    while i < s.len() {
-        if s[i] == FEED {
-            return i;
-        }
-        i += 1;
-    }
-    i
-}
-
-// Is a byte a digit?
-fn is_digit(b: u8) -> bool
-    ensures { λ r. ⌜ Tells r ((48 ≤ b) × (b ≤ 57)) ⌝ }
-{
-    if b < 48 {
-        return false;
-    }
-    b <= 57
-}
-
-// The number at the front of s, up to the first byte that is no digit: nothing if it has a leading zero or is above the limit.
-// Rules out a number cut short, and nothing where a number stands.
-fn number(s: &[u8], limit: usize) -> Front
-    requires { ⌜ limit ≤ 65536 ⌝ }
-    ensures { λ r. ⌜ FrontOf (now (s .entry)) limit r ⌝ }
-{
-    let mut v: usize = 0;
-    let mut i = 0;
-    while i < s.len() {
-        let b = s[i];
-        if !is_digit(b) {
-            if i == 0 {
-                return Front::Nothing;
-            }
-            return Front::Number { v, next: i };
-        }
-        if i == 1 {
-            if v == 0 {
-                return Front::Nothing;
-            }
-        }
-        v = v * 10 + (b - 48) as usize;
-        if limit < v {
-            return Front::Nothing;
-        }
-        i += 1;
-    }
-    if i == 0 {
-        return Front::Nothing;
-    }
-    Front::Number { v, next: i }
-}
-
-// The number that s is. Rules out bytes behind the number.
-fn whole(s: &[u8], limit: usize) -> Count
-    requires { ⌜ limit ≤ 65536 ⌝ }
-    ensures { λ r. ⌜ CountOf (now (s .entry)) limit r ⌝ }
-{
-    let front = number(s, limit);
-    match front {
-        Front::Nothing => Count::Nothing,
-        Front::Number { v, next } => {
-            if next < s.len() {
-                return Count::Nothing;
-            }
-            Count::Of(v)
-        }
-    }
-}
-
-// A number of 1 to the limit with a blank after it; the bytes of both are taken. Rules out 0, and a number with another byte
-// behind it.
-fn field(s: &[u8], limit: usize) -> Front
-    requires { ⌜ limit ≤ 65536 ⌝ }
-    ensures { λ r. ⌜ FieldOf (now (s .entry)) limit r ⌝ }
-{
-    let front = number(s, limit);
-    match front {
-        Front::Nothing => Front::Nothing,
-        Front::Number { v, next } => {
-            if v == 0 {
-                return Front::Nothing;
-            }
-            if next == s.len() {
-                return Front::Nothing;
-            }
-            if s[next] != BLANK {
-                return Front::Nothing;
-            }
-            Front::Number { v, next: next + 1 }
-        }
-    }
-}
-
-// The order that s is. Rules out a minus before 0, and an order outside −100 to 100.
-fn signed_value(s: &[u8]) -> Value
-    ensures { λ r. ⌜ ValueOf (now (s .entry)) r ⌝ }
-{
-    if s.len() == 0 {
-        return Value::Nothing;
-    }
-    if s[0] == MINUS {
-        let count = whole(&s[1..], SIZE);
-        match count {
-            Count::Nothing => Value::Nothing,
-            Count::Of(v) => {
-                if v == 0 {
-                    return Value::Nothing;
-                }
-                Value::Is(-(v as i16))
-            }
-        }
-    } else {
-        let count = whole(s, SIZE);
-        match count {
-            Count::Nothing => Value::Nothing,
-            Count::Of(v) => Value::Is(v as i16),
-        }
-    }
-}
-
 // The order that a line says: its row, its column and the order, each handed the rest of the line. Rules out a row or a column
 // outside 1 to N, and row and column exchanged.
 fn order_line(line: &[u8], n: usize) -> Place
-    requires { ⌜ n ≤ 65536 ⌝ }
-    ensures { λ r. ⌜ PlaceOf n (now (line .entry)) r ⌝ }
+    requires { ⌜ n ≤ rows ⌝ }
+    ensures { λ r. ⌜ PlaceOf (OrderIs n (now (line .entry))) r ⌝ }
 {
-    let Front::Number { v: i, next: a } = field(line, n) else {
+    let Front::Number { value: i, taken: a } = number_field(line, n) else {
         return Place::Nothing;
     };
-    let Front::Number { v: j, next: b } = field(&line[a..], n) else {
+    let Front::Number { value: j, taken: b } = number_field(&line[a..], n) else {
         return Place::Nothing;
     };
     let c = a + b;
-    let Value::Is(v) = signed_value(&line[c..]) else {
+    let Signed::Is(v) = signed_number(&line[c..], SIZE) else {
         return Place::Nothing;
     };
     Place::At {
@@ -218,48 +77,9 @@ fn order_line(line: &[u8], n: usize) -> Place
     }
 }
 
-// Does s begin with these bytes? Rules out bytes that are shorter than these or differ from them.
-fn starts_with(s: &[u8], head: &[u8]) -> bool
-    ensures { λ r. ⌜ Tells r (now (s .entry) ≡ now (head .entry) ++ drop (length (now (head .entry))) (now (s .entry))) ⌝ }
-{
-    let mut i = 0;
-    while i < head.len() {
-        if i == s.len() {
-            return false;
-        }
-        if s[i] != head[i] {
-            return false;
-        }
-        i += 1;
-    }
-    true
-}
-
-// The count after these bytes: it takes the rest of the line and lies within the bounds. Rules out a count outside the bounds.
-fn count_after(line: &[u8], head: &[u8], low: usize, high: usize) -> Count
-    requires { ⌜ high ≤ 65536 ⌝ }
-    ensures { λ r. ⌜ AfterOf (now (line .entry)) (now (head .entry)) low high r ⌝ }
-{
-    if starts_with(line, head) {
-        let a = head.len();
-        let count = whole(&line[a..], high);
-        match count {
-            Count::Nothing => Count::Nothing,
-            Count::Of(v) => {
-                if v < low {
-                    return Count::Nothing;
-                }
-                Count::Of(v)
-            }
-        }
-    } else {
-        Count::Nothing
-    }
-}
-
 // The count of the heading that comes after so many sections. Rules out another section's heading, and a count of columns that is
 // not N.
-fn heading(line: &[u8], section: usize, n: usize) -> Count
+fn heading(line: &[u8], section: usize, n: usize) -> Unsigned
     requires { ⌜ (section < 3) × (n ≤ rows) ⌝ }
     ensures { λ r. ⌜ HeadingOf (now (line .entry)) section n r ⌝ }
 {
@@ -377,7 +197,7 @@ fn walk(
             wrong = line;
             break 'sheet;
         }
-        let Count::Of(c) = heading(&sheet[at..end], section, n) else {
+        let Unsigned::Is(c) = heading(&sheet[at..end], section, n) else {
             wrong = line;
             break 'sheet;
         };

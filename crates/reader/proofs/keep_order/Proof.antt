@@ -1,12 +1,13 @@
 -- An order is put into the table. Assumes nothing.
 use borrow.Author.Needs.{needs}
 use native.Mathlib.Omega.{arith}
-use mathlib.Core.Path.{_≡_, sym, ap, subst, _∙_}
+use mathlib.Core.Path.{_≡_, sym, ap, _∙_}
 use Prim.Native.Nat.{_+_, _*_, _<_}
-use Rattle.reader.specs.Parts.{OrderIs, PlaceOf}
+use Rattle.theory.specs.Limits.{rows}
+use Rattle.reader.specs.Parts.{OrderIs}
 use Rattle.sheet.proofs.Lines.{order-once}
-use Rattle.reader.proofs.KeepLaws.{place-small, row-small, is-no-place, unkept-order, kept-order}
-use Rattle.reader.proofs.LineLaws.{order-bits}
+use Rattle.reader.proofs.KeepLaws.{place-small, row-small, unkept-order, kept-order}
+use Rattle.fields.proofs.SignedLaws.{order-bits}
 use Rattle.reader.proofs.keep_order.Statement.{statement}
 use Rattle.reader.proofs.keep_order.Tie as tie
 
@@ -14,12 +15,10 @@ use Rattle.reader.proofs.keep_order.Tie as tie
 said : (c : tie.After-known-told)
     → OrderIs (c .before .before .before .before .before .args .n) (c .before .before .before .before .before .args .line .now) (c .before .row .given .0 .0)
     (c .before .row .given .0 .1 .0) (c .before .row .given .0 .1 .1 .0)
-said c =
-    let args′ = c .before .before .before .before .before .args in
-    subst (λ x. PlaceOf (args′ .n) (args′ .line .now) x) (c .before .row .given .1) (c .before .before .before .order-line .ensures)
+said c = c .before .before .before .order-line .ensures .found _ _ _ (c .before .row .given .1)
 
 inside : (c : tie.After-known-told)
-    → c .before .row .given .0 .0 * c .before .before .before .before .before .args .n + c .before .row .given .0 .1 .0 < 1024
+    → c .before .row .given .0 .0 * c .before .before .before .before .before .args .n + c .before .row .given .0 .1 .0 < rows * rows
 inside c = place-small _ _ _ (c .before .before .before .before .before .pre) (said c .row) (said c .col)
 
 order-line-requires : tie.Need-order-line-requires
@@ -35,10 +34,9 @@ returns : tie.Need-returns
 returns c =
     let args′ = c .before .before .before .before .args in
     let order-line′ = c .before .before .order-line in
-    let match′ = c .before .match in
     λ st m b d h due.
     unkept-order _ (args′ .n) m (args′ .line .now) st h due _
-    (λ i j v o r. subst (λ x. PlaceOf (args′ .n) (args′ .line .now) x) (is-no-place (order-line′ .result) (match′ .keys2)) (order-line′ .ensures) i j v o)
+    (λ i j v o r. order-line′ .ensures .none (c .enum-told .given .1) i j v o)
 
 mul-at : tie.Need-mul-at
 mul-at c = omega (arith, row-small _ _ (c .before .before .before .before .before .pre) (said c .row))
@@ -75,7 +73,7 @@ returns-3 c =
     let pre′ = c .before .before .before .before .before .before .pre in
     let if1′ = c .if1 in
     λ st m b d h due.
-    rw (order-bits (row′ .given .0 .1 .1 .0) (said (c .before) .order-stands))
+    rw (order-bits (omega arith) (row′ .given .0 .1 .1 .0) (said (c .before) .order-stands))
     (kept-order _ (args′ .n) m (args′ .line .now) st h due _ _ (row′ .given .0 .1 .1 .0) pre′ (said (c .before)) (omega (arith, h .next-held, if1′ .left)))
 
 pub keep-order-spec : {M : Type 1} → statement M

@@ -4,14 +4,14 @@ use borrow.Author.Tests.{not-true, not-false}
 use native.Mathlib.Omega.{arith}
 use mathlib.Core.Logic.{inl, inr}
 use mathlib.Core.List.{List}
-use mathlib.Core.Path.{_≡_, refl, subst}
+use mathlib.Core.Path.{_≡_, refl}
 use Prim.Native.Nat.{ℕ, _+_, _-_, _≤_, _<_}
-use lib.ListN.{length, take, drop, length-drop}
+use lib.ListN.{length, drop, length-drop}
 use mir.Syntax.{w64}
 use mir.Val.{Fits}
 use Rattle.sheet.proofs.Bytes.{rest}
-use Rattle.reader.specs.Parts.{LineEnd, HeadingOf, store}
-use Rattle.reader.proofs.LineLaws.{is-no-count}
+use Rattle.fields.specs.Fields.{LineEnd}
+use Rattle.reader.specs.Parts.{store}
 use Rattle.reader.proofs.WalkLaws.{Outer, Inner, outer-lack, outer-halt, outer-pass, outer-start, inner-due, inner-within, inner-lack, inner-halt, inner-pass, inner-last, walk-stopped, walk-ended, feed-inside, next-fits, next-line}
 use Rattle.reader.proofs.walk.Statement.{statement}
 use Rattle.reader.proofs.walk.Tie as tie
@@ -124,8 +124,7 @@ loop-holds c =
       u .inv .1,
       outer-pass (args′ .sheet .now) _ (u .n) (u .section) (u .line) (u .at) (u .inv .3) (line-end′ .result) (c′ .given .0 .0) (if2′ .n)
           (heading-end (c .before .before .before .before .before .before .before)) (if1′ .left)
-          (subst (λ x. HeadingOf (take (u .at + line-end′ .result - u .at) (drop (u .at) (args′ .sheet .now))) (u .section) (u .n) x)
-          (c′ .given .1) (heading′ .ensures))
+          (heading′ .ensures .found _ (c′ .given .1))
           (λ z. elim (if2′ .came) [ inl w ↦ w .1 | inr w ↦ absurd (w .0 .left z) ])
           (λ z. elim (if2′ .came) [ inl w ↦ absurd (z (w .0 .taken)) | inr w ↦ w .1 ]) (omega arith) (u .inv .2),
       u .inv .4,
@@ -282,12 +281,10 @@ returns-3 c =
     let line-end′ = c .before .before .before .before .before .line-end in
     let if1′ = c .before .before .before .before .if1 in
     let heading′ = c .before .before .heading in
-    let match′ = c .before .match in
     let u = sheet′ in
     walk-stopped (args′ .sheet .now) _ _ _ _ (u .inv .3 .reached .line-some)
     (outer-halt (args′ .sheet .now) _ (u .n) (u .section) (u .line) (u .at) (u .inv .3) (line-end′ .result) (heading-end (c .before .before .before .before .before)) (if1′ .left)
-    (subst (λ x. HeadingOf (take (u .at + line-end′ .result - u .at) (drop (u .at) (args′ .sheet .now))) (u .section) (u .n) x)
-    (is-no-count (heading′ .result) (match′ .keys2)) (heading′ .ensures)))
+    (heading′ .ensures .none (c .enum-told .given .1)))
 
 returns-4 : tie.Need-returns-4 Inv-loop μ-loop Inv-sheet μ-sheet
 returns-4 c =

@@ -2,8 +2,8 @@
 use native.Mathlib.Omega.{arith}
 use Rattle.orders.proofs.Entries.{tells-no}
 use borrow.Author.Tests.{leb-true, leb-false}
-use Rattle.reader.proofs.is_digit.Statement.{statement}
-use Rattle.reader.proofs.is_digit.Tie as tie
+use Rattle.fields.proofs.is_digit.Statement.{statement}
+use Rattle.fields.proofs.is_digit.Tie as tie
 
 returns : tie.Need-returns
 returns c = tells-no (λ d. omega (arith, d .0))

@@ -5,11 +5,12 @@ use Prim.Native.Nat.{ℕ, _≤_, _<_, _-_}
 use mathlib.Core.Logic.{_≢_}
 use borrow.Author.Count.{below-more}
 use lib.ListN.{length, getD}
-use Rattle.reader.proofs.line_end.Statement.{statement}
-use Rattle.reader.proofs.line_end.Tie as tie
+use Rattle.sheet.specs.Text.{feed}
+use Rattle.fields.proofs.line_end.Statement.{statement}
+use Rattle.fields.proofs.line_end.Tie as tie
 
 abbrev Inv-loop : tie.InvT-loop
-Inv-loop s i₀ i = (i ≤ length s) × ((k : ℕ) → k < i → getD s k 0 ≢ 10)
+Inv-loop s i₀ i = (i ≤ length s) × ((k : ℕ) → k < i → getD s k 0 ≢ feed)
 
 abbrev μ-loop : tie.MeasureT-loop
 μ-loop s i₀ i = length s - i

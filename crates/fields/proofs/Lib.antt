@@ -1,0 +1,4 @@
+pub mod Answers
+pub mod NumberLaws
+pub mod SignedLaws
+pub mod CountLaws

@@ -4,3 +4,4 @@ pub mod Saying
 pub mod Unique
 pub mod Shown
 pub mod Fits
+pub mod Inputs

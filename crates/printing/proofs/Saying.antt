@@ -31,9 +31,7 @@ use Rattle.reader.proofs.PromiseLaws.{lengths-right}
 use Rattle.reader.specs.declared.Read.{Read}
 use Rattle.reader.specs.declared.Read.the-variants as read
 use Rattle.printing.specs.Printed.{Figures, printed}
-use Rattle.printing.specs.Promise.{says, PrintPromise, no-room, wrote, TableSays, no-transversal, solved, SheetSays, too-long, wrong-line, of-table}
-use Rattle.printing.specs.declared.Printed as declared
-use Rattle.printing.specs.declared.Printed.the-variants.{Bytes}
+use Rattle.printing.specs.Promise.{PrintPromise, no-room, wrote, TableSays, no-transversal, solved, SheetSays, too-long, wrong-line, of-table}
 use Rattle.printing.specs.Parts.{Largest, Tabled, Prints}
 
 -- ---- the solver
@@ -174,7 +172,7 @@ sheet-table s n b room room′ r k p =
 
 -- ---- the copying out: what stands on the page up to its end is the printed answer
 module _ (s page page′ : List ℕ) (k : ℕ) (p : Prints (SheetSays s) page page′ k) where
-  on-page : take k page′ ≡ printed (p .said)
+  pub on-page : take k page′ ≡ printed (p .said)
   on-page =
       ap (take k) (p .puts .puts .is) ∙ take-at (printed (p .said)) (drop (length (printed (p .said))) page) k (sym (p .puts .puts .is-length))
 
@@ -194,11 +192,3 @@ module _ (s page page′ : List ℕ) (k : ℕ) (p : Prints (SheetSays s) page pa
   copied out out′ w h q =
       wrote (p .said) (p .holds) (omega (arith, p .puts .puts .is-length)) (ap gives (q .is-length ∙ ap length on-page))
       (q .is ∙ ap (λ x. over x out) on-page)
-
--- ---- for callers: as many bytes as are told stand in the room
-pub bytes-inside : (s room room′ : List ℕ) (r : declared.Printed) (k : ℕ) → PrintPromise s room room′ (says r) → r ≡ Bytes k → k ≤ length room′
-bytes-inside s room room′ r k (no-room a h l e f) q =
-    not-both k 12 [] (sym (ap says q) ∙ e)
-bytes-inside s room room′ r k (wrote a h l e f) q =
-    let c : k ≡ length (printed a) = given-once k (length (printed a)) (sym (ap says q) ∙ e) in
-    omega (arith, ap length f, length-append (printed a) (drop (length (printed a)) room))

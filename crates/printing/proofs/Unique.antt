@@ -4,7 +4,7 @@ use mathlib.Core.List.{List, [], _∷_}
 use Prim.Native.Nat.{ℕ, _<_}
 use native.Mathlib.Omega.{arith}
 use lib.IntN.{ℤ, pos}
-use lib.ListN.{length}
+use lib.ListN.{length, take}
 use lib.Seq.{ext-getD}
 use Rattle.theory.specs.Lists.{nums, columns, StarList}
 use Rattle.theory.specs.Table.{entry}
@@ -14,9 +14,10 @@ use Rattle.orders.proofs.Refusals.{refusal-once, given-once, not-both}
 use Rattle.sheet.specs.Text.{over}
 use Rattle.sheet.proofs.Once.{good-once, wrong-once, good-not-wrong}
 use Rattle.printing.specs.Printed.{Figures, printed}
-use Rattle.printing.specs.Promise.{says, FiguresOf, TableSays, no-transversal, solved, SheetSays, too-long, wrong-line, of-table, PrintPromise, no-room, wrote}
+use Rattle.printing.specs.Promise.{says, FiguresOf, TableSays, no-transversal, solved, SheetSays, too-long, wrong-line, of-table, PrintPromise, no-room, wrote, InputPromise}
 use Rattle.printing.specs.declared.Printed.{Printed}
 use Rattle.printing.specs.declared.Printed.the-variants.{Bytes, Refused}
+use Rattle.printing.proofs.Inputs.{own-input}
 
 -- what is returned is known from its number and values
 pub says-once : (a b : Printed) → says a ≡ says b → a ≡ b
@@ -81,3 +82,14 @@ print-once s room p q a b (wrote x h l e f) (no-room y g m d k) =
 print-once s room p q a b (wrote x h l e f) (wrote y g m d k) =
     let c : x ≡ y = sheet-once s x y h g in
     (says-once a b (e ∙ ap (λ i. gives (length (printed i))) c ∙ sym d), f ∙ ap (λ i. over (printed i) room) c ∙ sym k)
+
+-- Uniqueness of the program's work: two lengths with two memories that both meet the statement are the same. A buffer is at least
+-- what was read of its own first bytes, so the statement is never empty.
+pub input-once : (buffer : List ℕ) (n : ℕ) (room p q : List ℕ) (r s : ℕ) → InputPromise buffer n room p r → InputPromise buffer n room q s → (r ≡ s) × (p ≡ q)
+input-once buffer n room p q r s f g =
+    let x = f .answers (take n buffer) (own-input buffer n) in
+    let y = g .answers (take n buffer) (own-input buffer n) in
+    let c : x .said ≡ y .said = sheet-once (take n buffer) (x .said) (y .said) (x .says-so) (y .says-so) in (
+      x .puts .is-length ∙ ap (λ a. length (printed a)) c ∙ sym (y .puts .is-length),
+      x .puts .is ∙ ap (λ a. over (printed a) room) c ∙ sym (y .puts .is),
+    )

@@ -3,7 +3,7 @@ use mathlib.Core.Path.{_≡_}
 use mathlib.Core.List.{List, [], _∷_}
 use Prim.Native.Nat.{ℕ, _≤_, _<_}
 use lib.IntN.{ℤ}
-use lib.ListN.{length}
+use lib.ListN.{length, take}
 use Rattle.theory.specs.Lists.{nums, ints, columns, StarList}
 use Rattle.theory.specs.Table.{entry}
 use Rattle.theory.specs.Canon.{Solution, Index}
@@ -12,6 +12,7 @@ use Rattle.handed.specs.Conditions.{NoTransversal}
 use Rattle.sheet.specs.Text.{over}
 use Rattle.sheet.specs.Sheet.{Labelled}
 use Rattle.sheet.specs.Reading.{start, good, Reads, TooLong, WrongLine}
+use Rattle.lettering.specs.Putting.{Puts}
 use Rattle.printing.specs.Printed.{Figures, printed}
 use Rattle.printing.specs.declared.Printed.{Printed}
 use Rattle.printing.specs.declared.Printed.the-variants.{Bytes, Refused}
@@ -48,3 +49,19 @@ pub data PrintPromise (s room room′ : List ℕ) (r : Said ℕ) : Type 0 where
   no-room : (a : Said Figures) → SheetSays s a → length room < length (printed a) → r ≡ refuses 12 [] → room′ ≡ room → PrintPromise s room room′ r
   wrote : (a : Said Figures) → SheetSays s a → length (printed a) ≤ length room → r ≡ gives (length (printed a)) → room′ ≡ over (printed a) room
       → PrintPromise s room room′ r
+
+-- ---- the program
+-- the first n bytes of a buffer were read of an input: all of it, or as many as the buffer holds
+pub record ReadOf (input buffer : List ℕ) (n : ℕ) : Type 0 where
+  pub front : take n buffer ≡ take (length buffer) input
+
+-- the printed answer of a sheet stands at the front of a room, r is its length, and bytes after it stay
+pub record Answers (s room room′ : List ℕ) (r : ℕ) : Type 0 where
+  pub said : Said Figures
+  pub says-so : SheetSays s said
+  pub puts : Puts (printed said) room room′ r
+
+-- whatever the input, of which the first n bytes of the buffer were read: its printed answer stands at the front of the room. There
+-- is no refusal.
+pub record InputPromise (buffer : List ℕ) (n : ℕ) (room room′ : List ℕ) (r : ℕ) : Type 0 where
+  pub answers : (input : List ℕ) → ReadOf input buffer n → Answers input room room′ r

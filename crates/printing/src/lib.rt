@@ -7,7 +7,7 @@ ghost use Rattle.sheet.specs.Text.{text, signed, ended};
 ghost use Rattle.sheet.specs.Sheet.{labelLines, labelSection};
 ghost use Rattle.printing.specs.Printed.{printed};
 ghost use Rattle.printing.specs.Parts.{PutsShort, part, whole, Follows, Largest, Tabled, Prints};
-ghost use Rattle.printing.specs.Promise.{says, TableSays, SheetSays, PrintPromise};
+ghost use Rattle.printing.specs.Promise.{says, TableSays, SheetSays, PrintPromise, InputPromise};
 use canon::Answer;
 use canon::solve;
 use lettering::put;
@@ -17,6 +17,7 @@ use lettering::put_value_line;
 use orders::PLACES;
 use orders::ROWS;
 use orders::Refusal;
+use orders::SHEET;
 use orders::number;
 use reader::LABELS;
 use reader::Read;
@@ -25,6 +26,9 @@ use sheet::FEED;
 
 // A room in which every answer fits: `answers-fit` in proofs/Fits.
 pub const ENOUGH: usize = 512;
+
+// As much of an input as tells its answer: one byte more than the longest sheet, so that a longer one is known.
+pub const INPUT: usize = SHEET + 1;
 
 // The page on which an answer is made up, with room for numbers of any size.
 const PAGE: usize = 2000;
@@ -212,4 +216,21 @@ pub fn print_answer(sheet: &[u8], out: &mut [u8]) -> Printed
     }
     let written = put(&page[..k], out);
     Printed::Bytes(written)
+}
+
+// The program's whole work: of an input its first n bytes stand at the front of the buffer, all of them or as many as it holds; the
+// printed answer of that input goes to the front of the room, and its length is told. No room is too small and no input too long, so
+// nothing is refused here. The promise rules out a buffer that cannot tell an input that is too long from one that just is not, a
+// room that some answer does not fit, and all that `print_answer` rules out.
+pub fn print_input(input: &[u8; INPUT], n: usize, room: &mut [u8; ENOUGH]) -> usize
+    ensures { λ r. ⌜ InputPromise (now (input .entry)) n (now (room .entry)) (now (room .exit)) r ⌝ }
+{
+    let mut end = n;
+    if INPUT < n {
+        end = INPUT;
+    }
+    let mut page = [0u8; PAGE];
+    let read: &[u8] = input;
+    let k = put_answer(&read[..end], &mut page);
+    put(&page[..k], room)
 }

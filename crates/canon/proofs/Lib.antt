@@ -2,4 +2,5 @@ pub mod Refusing
 pub mod Answering
 pub mod Unique
 pub mod Theorems
+pub mod Demands
 pub mod Useless

@@ -1,275 +1,232 @@
--- What the promises mean together, for the customer: about the promises, not about the code. Assumes nothing.
-use mathlib.Core.Path.{_≡_, sym, _∙_, ap}
-use mathlib.Core.Logic.{_⊎_, inl, inr}
-use mathlib.Core.Bool.{true, false}
+-- What the promises of the routes and of the yes-or-no give, from what their tests say: about the promises, not about the code. The
+-- demands (Demands.antt) are made of these. Assumes nothing.
+use mathlib.Core.Path.{_≡_, refl, sym, _∙_, ap}
+use mathlib.Core.Bool.{Bool, true, false}
 use mathlib.Core.List.{List, [], _∷_}
 use Prim.Native.Nat.{ℕ, _-_, _*_, _≤_, _<_}
 use native.Mathlib.Omega.{arith}
-use lib.IntN.{ℤ, pos, negℤ}
+use lib.IntN.{ℤ}
 use lib.ListN.{length}
 use lib.Seq.{ext-getD}
-use lib.Signed.{_≤ℤ_}
-use Rattle.theory.specs.Limits.{rows, order, handed}
+use Rattle.theory.specs.Limits.{rows, order}
 use Rattle.theory.specs.Lists.{nums, ints, columns, StarList}
 use Rattle.theory.specs.Table.{entry, Entries, WithinLimit}
-use Rattle.theory.specs.Canon.{Transversal, Canon, Greatest, Misplaced, on-absent, exceeded, Solution, Balance}
+use Rattle.theory.specs.Canon.{Transversal, Simplest, Greatest, Misplaced, on-absent, exceeded, Solution, sum}
+use Rattle.theory.specs.Cases.{Handed, nothing, additions, stars, Leads, SomeTransversal}
 use Rattle.theory.proofs.Signed.{signed, below-zero}
-use Rattle.theory.proofs.Duality.{balance}
 use Rattle.theory.proofs.Unique.{least-once}
 use Rattle.theory.proofs.Bounds.{addition-bound, head-high, head-low, sum-high, sum-low}
-use Rattle.orders.specs.Refusals.{Test, _given-when_, First, Clear, RightLengths, gives, refuses}
-use Rattle.orders.proofs.Refusals.{given-once, not-both, right-lengths, right-not-wrong}
+use Rattle.theory.proofs.Decisions.{canon-known, not-less}
+use Rattle.orders.specs.Refusals.{Test, First, Clear, RightLengths, Said, gives, refuses}
+use Rattle.orders.proofs.Refusals.{first-once, first-clear, given-once, not-both, right-lengths}
+use Rattle.orders.proofs.Entries.{clash}
 use Rattle.orders.proofs.Places.{within}
-use Rattle.handed.specs.Conditions.{each, slices, TooLarge, WrongStars, NoTransversal, NoCanon, NotGreatest, basic, canon-more, canon-tests, star-more, star-tests}
-use Rattle.handed.proofs.Basics.{in-size, sized, entries-known, entries-right, additions-right, stars-right}
+use Rattle.handed.specs.Conditions.{each, slices, NotGreatest, basic, table-more, canon-more, star-more}
+use Rattle.handed.specs.Handed.{Sound}
+use Rattle.handed.proofs.Basics.{in-size, sized, entries-known, additions-known, additions-right, stars-known, stars-right}
 use Rattle.canon.specs.Answers.{said, judged}
-use Rattle.canon.specs.Promises.{Routed, refused, answered, Solves, FromCanon, FromStars, Judges, declines, says-yes, says-no}
+use Rattle.canon.specs.Promises.{Routed, refused, answered, Judges, declines, says-yes, says-no}
+use Rattle.canon.specs.Demands.{Buffers, buffers, lengths, WellFormed, Wanted, Route, tests, verdict-tests, Found}
 use Rattle.canon.specs.declared.Answer.{Answer}
 use Rattle.canon.specs.declared.Verdict.{Verdict}
-use Rattle.canon.proofs.Unique.{One, solved-once}
+use Rattle.canon.proofs.Refusing.{past-clear}
 
--- a transversal of greatest sum is not misplaced
+-- ---- the promise of a route, whatever its tests
+abbrev pub Routes : List Test → ℕ → List ℤ → Buffers → Answer → Buffers → Type 0
+Routes ts n t b r b′ = Routed ts n t (b .adds) (b .stars) (b .heads) r (b′ .adds) (b′ .stars) (b′ .heads)
+
+pub routes : (n : ℕ) (t : List ℤ) (start : Handed) (b b′ : Buffers) (r : Answer) → Route n t start b r b′ → Routes (tests n t start b) n t b r b′
+routes n t nothing b b′ r p = p
+routes n t (additions l) b b′ r p = p
+routes n t (stars s) b b′ r p = p
+
+pub same-buffers : (b c : Buffers) → b .adds ≡ c .adds → b .stars ≡ c .stars → b .heads ≡ c .heads → b ≡ c
+same-buffers b c x y z =
+    ap (λ v. buffers v (b .stars) (b .heads)) x ∙ ap (λ v. buffers (c .adds) v (b .heads)) y ∙ ap (λ v. buffers (c .adds) (c .stars) v) z
+
+-- what a route that answers s writes
+pub record Result (n : ℕ) (t : List ℤ) (b : Buffers) (s : ℤ) : Type 0 where
+  pub adds-long : length (b .adds) ≡ n
+  pub star-list : StarList n (b .stars)
+  pub heads-long : length (b .heads) ≡ n
+  pub solution : Solution n (entry t n) (λ i. 0) (nums (b .adds)) (columns (b .stars)) (ints (b .heads)) s
+
+module _ {ts : List Test} {n : ℕ} {t : List ℤ} {r : Answer} (b b′ : Buffers) where
+  -- the first test that applies is given, and everything is as it was
+  pub routed-refused : Routes ts n t b r b′ → (k : ℕ) → First ts k → (said r ≡ refuses k []) × (b′ ≡ b)
+  routed-refused (refused j q says x y z) k l =
+      (says ∙ ap (λ (i : ℕ). refuses i []) (first-once ts j k q l), same-buffers b′ b x y z)
+  routed-refused (answered s clear says la ls lh sol) k l = absurd (first-clear ts k l clear)
+
+  -- and nothing else is refused
+  pub routed-due : Routes ts n t b r b′ → (k : ℕ) (vs : List ℕ) → said r ≡ refuses k vs → First ts k × (vs ≡ [])
+  routed-due (refused j q says x y z) k vs e =
+      let h : _≡_ {A = Said ℤ} (refuses j []) (refuses k vs) = sym says ∙ e in
+      let same : j ≡ k = cc in
+      let none : vs ≡ [] = cc in
+      (rw same at q, none)
+  routed-due (answered s clear says la ls lh sol) k vs e = not-both s k vs (sym says ∙ e)
+
+  -- where no test applies there is an answer,
+  pub routed-answers : Routes ts n t b r b′ → Clear ts → (s : ℤ) × (said r ≡ gives s)
+  routed-answers (refused k l says x y z) clear = absurd (first-clear ts k l clear)
+  routed-answers (answered s c says la ls lh sol) clear = (s, says)
+
+  -- and where there is one, no test applies, and it is the table's
+  pub routed-result : Routes ts n t b r b′ → (s : ℤ) → said r ≡ gives s → Clear ts × Result n t b′ s
+  routed-result (refused k l says x y z) s e = not-both s k [] (sym e ∙ says)
+  routed-result (answered z clear says la ls lh sol) s e =
+      (clear, record { adds-long = la; star-list = ls; heads-long = lh; solution = rw (given-once s z (sym e ∙ says)) sol })
+
+  -- a call that may not answer refuses
+  pub routed-otherwise : Routes ts n t b r b′ → ((s : ℤ) → said r ≡ gives s → ⊥) → (k : ℕ) × (said r ≡ refuses k []) × (b′ ≡ b)
+  routed-otherwise (refused k l says x y z) none = (k, says, same-buffers b′ b x y z)
+  routed-otherwise (answered s clear says la ls lh sol) none = absurd (none s says)
+
+-- ---- what the tests say of what is handed in
+-- a transversal of greatest sum is not misplaced, and stars that are not misplaced have the greatest sum
 well-placed : {n : ℕ} {a : ℕ → ℕ → ℤ} {σ : ℕ → ℕ} → Greatest n a σ → Misplaced n a σ → ⊥
 well-placed g (on-absent i hi e) = g .transversal .present i hi e
 well-placed {n} {a} {σ} g (exceeded τ t lt) = omega (arith, signed, g .greatest τ t)
 
--- "a well-formed table, in slices of the wanted length"
-pub record WellFormed (n : ℕ) (t : List ℤ) (adds stars : List ℕ) (heads : List ℤ) : Type 0 where
-  pub some : (n ≡ 0) → ⊥
-  pub few : n ≤ rows
-  pub square : length t ≡ n * n
-  pub entries : Entries order t
-  pub adds-long : length adds ≡ n
-  pub stars-long : length stars ≡ n
-  pub heads-long : length heads ≡ n
+placed-greatest : (n : ℕ) (t : List ℤ) (s : List ℕ) → StarList n s → (NotGreatest n t s → ⊥) → Greatest n (entry t n) (columns s)
+placed-greatest n t s list f =
+    record {
+      transversal = record {
+        inside = λ i hi. omega (arith, list .from-one i hi, list .to-size i hi);
+        present = λ i hi e. f (on-absent i hi e);
+        apart = λ i k hi hk e. list .none-twice i k hi hk (omega (arith, list .from-one i hi, list .from-one k hk, e));
+      };
+      greatest = λ τ u. not-less (sum n (entry t n) (columns s)) (sum n (entry t n) τ) (λ lt. f (exceeded τ u lt));
+    }
 
--- what a call leaves behind, and that it refused by k with everything as it was
-pub record Kept (k : ℕ) (r : Answer) (adds adds′ stars stars′ : List ℕ) (heads heads′ : List ℤ) : Type 0 where
-  pub refusal : said r ≡ refuses k []
-  pub adds-kept : adds′ ≡ adds
-  pub stars-kept : stars′ ≡ stars
-  pub heads-kept : heads′ ≡ heads
+module _ (n : ℕ) (t : List ℤ) where
+  -- the first three tests, of slices with the lengths ks
+  sound-clear : (ks : List ℕ) (more : List Test) → Clear (basic n t ks more) → Sound n t ks
+  sound-clear ks more clear =
+      let right = right-lengths (slices n t ks) (clear .1 .0) in
+      record {
+        in-size = clear .0;
+        square = record { small = sized (clear .0) .1; square = right .0 };
+        fitting = right .1;
+        entries = entries-known t (clear .1 .1 .0);
+      }
 
-module _ {n : ℕ} {t : List ℤ} {adds stars : List ℕ} {heads : List ℤ} (w : WellFormed n t adds stars heads) where
-  -- of a call with these slices, and others of length n, the first three refusals do not apply
-  later : (more : List Test) (ks : List ℕ) → RightLengths (each n ks) → (k : ℕ) → First (basic n t ks more) k → First more k
-  later more ks f k (inl p) = absurd (in-size (w .some) (w .few) (p .0))
-  later more ks f k (inr (x, inl p)) = absurd (right-not-wrong (slices n t ks) (w .square, f) (p .0))
-  later more ks f k (inr (x, inr (y, inl p))) = absurd (entries-right (w .entries) (p .0))
-  later more ks f k (inr (x, inr (y, inr (z, l)))) = l
+  pub sound-formed : {ks : List ℕ} → Sound n t ks → WellFormed n t
+  sound-formed s =
+      record { some = sized (s .in-size) .0; few = s .square .small; square = s .square .square; entries = s .entries }
 
-  own : RightLengths (each n (length adds ∷ length stars ∷ length heads ∷ []))
-  own = (w .adds-long, (w .stars-long, (w .heads-long, tt)))
+  pub formed-sound : (ks : List ℕ) → WellFormed n t → RightLengths (each n ks) → Sound n t ks
+  formed-sound ks w f =
+      record {
+        in-size = in-size (λ e. omega (arith, w .some)) (w .few);
+        square = record { small = w .few; square = w .square };
+        fitting = f;
+        entries = w .entries;
+      }
 
-  -- ---- demand 3
-  module _ {r : Answer} {adds′ stars′ : List ℕ} {heads′ : List ℤ} (p : Solves n t adds stars heads r adds′ stars′ heads′) where
-    -- "Taken alone, a well-formed table, in slices of the wanted length, is refused exactly when no complete transversal of present
-    -- orders exists": then by 6, and everything is as it was
-    pub refused-if-none : NoTransversal n t → Kept 6 r adds adds′ stars stars′ heads heads′
-    refused-if-none none = go p
-      where
-        only : (k : ℕ) → First (6 given-when NoTransversal n t ∷ []) k → k ≡ 6
-        only k (inl q) = q .1
-        only k (inr q) = absurd (q .1)
+  pub own-lengths : (b : Buffers) → Wanted n b → RightLengths (each n (lengths b))
+  own-lengths b w = (w .adds-long, (w .stars-long, (w .heads-long, tt)))
 
-        go : Solves n t adds stars heads r adds′ stars′ heads′ → Kept 6 r adds adds′ stars stars′ heads heads′
-        go (refused k l says x y z) =
-            record {
-              refusal = says ∙ ap (λ (i : ℕ). refuses i []) (only k (later (6 given-when NoTransversal n t ∷ []) (length adds ∷ length stars ∷ length heads ∷ []) own k l));
-              adds-kept = x;
-              stars-kept = y;
-              heads-kept = z;
-            }
-        go (answered s clear says la ls lh sol) = absurd (clear .1 .1 .1 .0 none)
+  -- where no test applies, the table is well-formed, and what is handed in leads to an answer
+  pub clear-formed : (start : Handed) (b : Buffers) → Clear (tests n t start b) → WellFormed n t
+  clear-formed nothing b clear = sound-formed (sound-clear (lengths b) (table-more n t) clear)
+  clear-formed (additions l) b clear = sound-formed (sound-clear (length l ∷ lengths b) (canon-more n t l) clear)
+  clear-formed (stars s) b clear = sound-formed (sound-clear (length s ∷ lengths b) (star-more n t s) clear)
 
-    pub none-if-refused : (k : ℕ) (vs : List ℕ) → said r ≡ refuses k vs → NoTransversal n t
-    none-if-refused k vs e = go p
-      where
-        only : (k : ℕ) → First (6 given-when NoTransversal n t ∷ []) k → NoTransversal n t
-        only k (inl q) = q .0
-        only k (inr q) = absurd (q .1)
+  pub clear-leads : (start : Handed) (b : Buffers) → Clear (tests n t start b) → Leads n (entry t n) start
+  clear-leads nothing b clear = tt
+  clear-leads (additions l) b clear =
+      let long = sound-clear (length l ∷ lengths b) (canon-more n t l) clear .fitting .0 in (
+        long,
+        λ i hi. additions-known l (clear .1 .1 .1 .0) i (omega (arith, long)),
+        elim (canon-known n (entry t n) (nums l)) [ yes c ↦ c | no f ↦ absurd (clear .1 .1 .1 .1 .1 .0 f) ],
+      )
+  clear-leads (stars s) b clear =
+      let list = stars-known n s (sound-clear (length s ∷ lengths b) (star-more n t s) clear .fitting .0) (clear .1 .1 .1 .0) in
+      (list, placed-greatest n t s list (clear .1 .1 .1 .1 .1 .0))
 
-        go : Solves n t adds stars heads r adds′ stars′ heads′ → NoTransversal n t
-        go (refused j l says x y z) = only j (later (6 given-when NoTransversal n t ∷ []) (length adds ∷ length stars ∷ length heads ∷ []) own j l)
-        go (answered s clear says la ls lh sol) = not-both s k vs (sym says ∙ e)
+  -- and the other way
+  canon-passed : (l : List ℕ) → Leads n (entry t n) (additions l) → Clear (canon-more n t l)
+  canon-passed l g = (
+    additions-right (λ i hi. g .1 i (omega (arith, g .0))),
+    ((λ none. none (g .2 .columns) (g .2 .of-maxima .transversal)), ((λ f. f (g .2)), tt)),
+  )
 
--- "Otherwise the sum is the column maxima less the additions, no complete transversal has a greater one, and one reaches it exactly
--- when each of its orders, with its row's addition, is its column's maximum": of any route
-pub demand-3 : {tests : List Test} {n : ℕ} {t : List ℤ} {adds stars : List ℕ} {heads : List ℤ} {r : Answer} {adds′ stars′ : List ℕ} {heads′ : List ℤ} {s : ℤ}
-    → Routed tests n t adds stars heads r adds′ stars′ heads′ → said r ≡ gives s → Balance n (entry t n) (nums adds′) (ints heads′) s
-demand-3 {s = s} (refused k l says x y z) e = not-both s k [] (sym e ∙ says)
-demand-3 {n = n} {t = t} {adds′ = adds′} {heads′ = heads′} {s = s} (answered z clear says la ls lh sol) e =
-    rw (given-once s z (sym e ∙ says), sol .is-sum) (balance n (entry t n) (sol .heads) (sol .stars .of-maxima))
+  module _ (w : WellFormed n t) (b : Buffers) (f : Wanted n b) where
+    pub alone-clear : SomeTransversal n (entry t n) → Clear (tests n t nothing b)
+    alone-clear e = past-clear (formed-sound (lengths b) w (own-lengths b f)) (table-more n t) ((λ none. none (e .0) (e .1)), tt)
 
--- ---- demand 2: all starts that lead lead to one answer, others are refused
--- a start of route 2 in the wanted form
-pub record Additions (n : ℕ) (given : List ℕ) : Type 0 where
-  pub long : length given ≡ n
-  pub limited : (i : ℕ) → i < length given → nums given i ≤ handed
+    pub canon-clear : (l : List ℕ) → Leads n (entry t n) (additions l) → Clear (tests n t (additions l) b)
+    canon-clear l g = past-clear (formed-sound (length l ∷ lengths b) w (g .0, own-lengths b f)) (canon-more n t l) (canon-passed l g)
 
-module _ {n : ℕ} {t : List ℤ} {adds stars : List ℕ} {heads : List ℤ} (given : List ℕ) (w : WellFormed n t adds stars heads) (k : ℕ) where
-  -- what is left of the tests of route 2 and of route 3 in well-formed calls
-  canon-left : Additions n given → First (canon-tests n t given (length given ∷ length adds ∷ length stars ∷ length heads ∷ [])) k
-      → (NoTransversal n t × (k ≡ 6)) ⊎ (NoCanon n t given × (k ≡ 7))
-  canon-left g l = go (later w (canon-more n t given) (length given ∷ length adds ∷ length stars ∷ length heads ∷ []) (g .long, own w) k l)
-    where
-      go : First (canon-more n t given) k → (NoTransversal n t × (k ≡ 6)) ⊎ (NoCanon n t given × (k ≡ 7))
-      go (inl p) = absurd (additions-right (g .limited) (p .0))
-      go (inr (x, inl p)) = inl p
-      go (inr (x, inr (y, inl p))) = inr p
-      go (inr (x, inr (y, inr p))) = absurd (p .1)
+    pub greatest-clear : (s : List ℕ) → Leads n (entry t n) (stars s) → Clear (tests n t (stars s) b)
+    greatest-clear s g =
+        past-clear (formed-sound (length s ∷ lengths b) w (g .0 .long, own-lengths b f)) (star-more n t s)
+        (stars-right (g .0), ((λ none. none (columns s) (g .1 .transversal)), (well-placed (g .1), tt)))
 
-  star-left : StarList n given → First (star-tests n t given (length given ∷ length adds ∷ length stars ∷ length heads ∷ [])) k
-      → (NoTransversal n t × (k ≡ 6)) ⊎ (NotGreatest n t given × (k ≡ 8))
-  star-left g l = go (later w (star-more n t given) (length given ∷ length adds ∷ length stars ∷ length heads ∷ []) (g .long, own w) k l)
-    where
-      go : First (star-more n t given) k → (NoTransversal n t × (k ≡ 6)) ⊎ (NotGreatest n t given × (k ≡ 8))
-      go (inl p) = absurd (stars-right g (p .0))
-      go (inr (x, inl p)) = inl p
-      go (inr (x, inr (y, inl p))) = inr p
-      go (inr (x, inr (y, inr p))) = absurd (p .1)
+  pub verdict-clear : WellFormed n t → (given : List ℕ) → Leads n (entry t n) (additions given) → Clear (verdict-tests n t given)
+  verdict-clear w given g = past-clear (formed-sound (length given ∷ []) w (g .0, tt)) (canon-more n t given) (canon-passed given g)
 
-module _ {n : ℕ} {t : List ℤ} {given adds stars : List ℕ} {heads : List ℤ} {r : Answer} {adds′ stars′ : List ℕ} {heads′ : List ℤ}
-    (w : WellFormed n t adds stars heads) where
-  -- "Any canon within the stated limit .. leads to the same answer": the answer of route 1, in result and in lent memory
-  pub canon-leads : {a b : List ℕ} {c : List ℤ} {q : Answer} {a′ b′ : List ℕ} {c′ : List ℤ} → Additions n given → Canon n (entry t n) (nums given)
-      → FromCanon n t given adds stars heads r adds′ stars′ heads′ → WellFormed n t a b c → Solves n t a b c q a′ b′ c′
-      → One r q adds′ a′ stars′ b′ heads′ c′
-  canon-leads g canon (refused k l says x y z) v p = absurd (go (canon-left given w k g l))
-    where
-      go : (NoTransversal n t × (k ≡ 6)) ⊎ (NoCanon n t given × (k ≡ 7)) → ⊥
-      go (inl q) = q .0 (canon .columns) (canon .of-maxima .transversal)
-      go (inr q) = q .0 canon
-  canon-leads {q = q} g canon (answered s clear says la ls lh sol) v (refused k l said′ x y z) =
-      absurd (none-if-refused v {r = q} (refused k l said′ x y z) k [] said′ (canon .columns) (canon .of-maxima .transversal))
-  canon-leads {a′ = a′} {b′ = b′} {c′ = c′} g canon (answered s clear says la ls lh sol) v (answered s′ clear′ says′ la′ ls′ lh′ sol′) =
-      solved-once adds′ a′ stars′ b′ heads′ c′ says says′ la la′ ls ls′ lh lh′ sol sol′
+-- ---- the yes-or-no
+module _ {n : ℕ} {t : List ℤ} {given : List ℕ} {v : Verdict} where
+  pub judged-refused : Judges n t given v → (k : ℕ) → First (verdict-tests n t given) k → judged v ≡ refuses k []
+  judged-refused (declines j q says) k l = says ∙ ap (λ (i : ℕ). refuses i []) (first-once (verdict-tests n t given) j k q l)
+  judged-refused (says-yes clear says s) k l = absurd (first-clear (verdict-tests n t given) k l clear)
+  judged-refused (says-no clear says f) k l = absurd (first-clear (verdict-tests n t given) k l clear)
 
-  -- "or any transversal of greatest sum"
-  pub greatest-leads : {a b : List ℕ} {c : List ℤ} {q : Answer} {a′ b′ : List ℕ} {c′ : List ℤ} → StarList n given → Greatest n (entry t n) (columns given)
-      → FromStars n t given adds stars heads r adds′ stars′ heads′ → WellFormed n t a b c → Solves n t a b c q a′ b′ c′
-      → One r q adds′ a′ stars′ b′ heads′ c′
-  greatest-leads g top (refused k l says x y z) v p = absurd (go (star-left given w k g l))
-    where
-      go : (NoTransversal n t × (k ≡ 6)) ⊎ (NotGreatest n t given × (k ≡ 8)) → ⊥
-      go (inl q) = q .0 (columns given) (top .transversal)
-      go (inr q) = well-placed top (q .0)
-  greatest-leads {q = q} g top (answered s clear says la ls lh sol) v (refused k l said′ x y z) =
-      absurd (none-if-refused v {r = q} (refused k l said′ x y z) k [] said′ (columns given) (top .transversal))
-  greatest-leads {a′ = a′} {b′ = b′} {c′ = c′} g top (answered s clear says la ls lh sol) v (answered s′ clear′ says′ la′ ls′ lh′ sol′) =
-      solved-once adds′ a′ stars′ b′ heads′ c′ says says′ la la′ ls ls′ lh lh′ sol sol′
+  pub judged-due : Judges n t given v → (k : ℕ) (vs : List ℕ) → judged v ≡ refuses k vs → First (verdict-tests n t given) k × (vs ≡ [])
+  judged-due (declines j q says) k vs e =
+      let h : _≡_ {A = Said Bool} (refuses j []) (refuses k vs) = sym says ∙ e in
+      let same : j ≡ k = cc in
+      let none : vs ≡ [] = cc in
+      (rw same at q, none)
+  judged-due (says-yes clear says s) k vs e = not-both true k vs (sym says ∙ e)
+  judged-due (says-no clear says f) k vs e = not-both false k vs (sym says ∙ e)
 
-  -- "other starts are refused": additions that are no canon by 7, stars that are misplaced by 8, though a transversal exists
-  pub no-canon-refused : (σ : ℕ → ℕ) → Transversal n (entry t n) σ → Additions n given → NoCanon n t given → FromCanon n t given adds stars heads r adds′ stars′ heads′
-      → Kept 7 r adds adds′ stars stars′ heads heads′
-  no-canon-refused σ tr g none (refused k l says x y z) =
-      record { refusal = says ∙ ap (λ (i : ℕ). refuses i []) (go (canon-left given w k g l)); adds-kept = x; stars-kept = y; heads-kept = z }
-    where
-      go : (NoTransversal n t × (k ≡ 6)) ⊎ (NoCanon n t given × (k ≡ 7)) → k ≡ 7
-      go (inl q) = absurd (q .0 σ tr)
-      go (inr q) = q .1
-  no-canon-refused σ tr g none (answered s clear says la ls lh sol) = absurd (clear .1 .1 .1 .1 .1 .0 none)
+  -- yes to the simplest canon, and to nothing else
+  pub judged-yes : Judges n t given v → judged v ≡ gives true → Simplest n (entry t n) (nums given) × (length given ≡ n)
+  judged-yes (declines k l says) e = not-both true k [] (sym e ∙ says)
+  judged-yes (says-yes clear says s) e = (s, sound-clear n t (length given ∷ []) (canon-more n t given) clear .fitting .0)
+  judged-yes (says-no clear says f) e = clash (sym (given-once true false (sym e ∙ says))) refl
 
-  pub misplaced-refused : (σ : ℕ → ℕ) → Transversal n (entry t n) σ → StarList n given → NotGreatest n t given → FromStars n t given adds stars heads r adds′ stars′ heads′
-      → Kept 8 r adds adds′ stars stars′ heads heads′
-  misplaced-refused σ tr g wrong (refused k l says x y z) =
-      record { refusal = says ∙ ap (λ (i : ℕ). refuses i []) (go (star-left given w k g l)); adds-kept = x; stars-kept = y; heads-kept = z }
-    where
-      go : (NoTransversal n t × (k ≡ 6)) ⊎ (NotGreatest n t given × (k ≡ 8)) → k ≡ 8
-      go (inl q) = absurd (q .0 σ tr)
-      go (inr q) = q .1
-  misplaced-refused σ tr g wrong (answered s clear says la ls lh sol) = absurd (clear .1 .1 .1 .1 .1 .0 wrong)
+  pub yes-judged : Judges n t given v → Clear (verdict-tests n t given) → Simplest n (entry t n) (nums given) → judged v ≡ gives true
+  yes-judged (declines k l says) clear s = absurd (first-clear (verdict-tests n t given) k l clear)
+  yes-judged (says-yes c says u) clear s = says
+  yes-judged (says-no c says f) clear s = absurd (f s)
 
--- and nothing else leads: an answer of route 2 came from a canon within the limit, one of route 3 from a transversal of greatest sum
-pub only-canons-lead : {n : ℕ} {t : List ℤ} (given : List ℕ) {adds stars : List ℕ} {heads : List ℤ} {r : Answer} {adds′ stars′ : List ℕ} {heads′ : List ℤ} {s : ℤ}
-    → FromCanon n t given adds stars heads r adds′ stars′ heads′ → said r ≡ gives s
-    → (TooLarge given → ⊥) × (NoCanon n t given → ⊥)
-only-canons-lead given {s = s} (refused k l says x y z) e = not-both s k [] (sym e ∙ says)
-only-canons-lead given (answered z clear says la ls lh sol) e = (clear .1 .1 .1 .0, clear .1 .1 .1 .1 .1 .0)
+  pub no-judged : Judges n t given v → Clear (verdict-tests n t given) → (Simplest n (entry t n) (nums given) → ⊥) → judged v ≡ gives false
+  no-judged (declines k l says) clear f = absurd (first-clear (verdict-tests n t given) k l clear)
+  no-judged (says-yes c says s) clear f = absurd (f s)
+  no-judged (says-no c says g) clear f = says
 
-pub only-greatest-lead : {n : ℕ} {t : List ℤ} (given : List ℕ) {adds stars : List ℕ} {heads : List ℤ} {r : Answer} {adds′ stars′ : List ℕ} {heads′ : List ℤ} {s : ℤ}
-    → FromStars n t given adds stars heads r adds′ stars′ heads′ → said r ≡ gives s
-    → (WrongStars n given → ⊥) × (NotGreatest n t given → ⊥)
-only-greatest-lead given {s = s} (refused k l says x y z) e = not-both s k [] (sym e ∙ says)
-only-greatest-lead given (answered z clear says la ls lh sol) e = (clear .1 .1 .1 .0, clear .1 .1 .1 .1 .1 .0)
+-- additions of the wanted length that are a simplest canon are those that a route wrote
+pub simplest-same : {n : ℕ} {t : List ℤ} {s : ℤ} (b : Buffers) (given : List ℕ) → Result n t b s → length given ≡ n
+    → Simplest n (entry t n) (nums given) → given ≡ b .adds
+simplest-same {n} {t} b given r long simple =
+    ext-getD 0 given (b .adds) (long ∙ sym (r .adds-long)) (λ i hi. least-once n (entry t n) simple (r .solution .additions) i (omega arith))
 
--- ---- document 01's table of limits: what a route finds
-pub record Found (n : ℕ) (adds : List ℕ) (heads : List ℤ) (s : ℤ) : Type 0 where
-  pub addition : (i : ℕ) → i < n → nums adds i ≤ (n - 1) * 200
-  pub addition-most : (i : ℕ) → i < n → nums adds i ≤ 6200
-  pub head-least : (j : ℕ) → j < n → negℤ (pos 100) ≤ℤ ints heads j
-  pub head-most : (j : ℕ) → j < n → ints heads j ≤ℤ pos 6300
-  pub sum-least : negℤ (pos 3200) ≤ℤ s
-  pub sum-most : s ≤ℤ pos 3200
-
-pub found-within : {n : ℕ} (t : List ℤ) (adds stars : List ℕ) (heads : List ℤ) {s : ℤ} → n ≤ rows → length t ≡ n * n → Entries order t
-    → Solution n (entry t n) (λ i. 0) (nums adds) (columns stars) (ints heads) s → Found n adds heads s
-found-within {n} t adds stars heads {s} few square entries sol =
+-- ---- document 01's table of limits
+pub found-within : {n : ℕ} (t : List ℤ) (adds starred : List ℕ) (heads : List ℤ) {s : ℤ} → n ≤ rows → length t ≡ n * n → Entries order t
+    → Solution n (entry t n) (λ i. 0) (nums adds) (columns starred) (ints heads) s → Found n adds heads s
+found-within {n} t adds starred heads {s} few square entries sol =
     record {
       addition = low;
       addition-most = λ i hi. omega (arith, low i hi);
       head-least = λ j hj. head-low n (entry t n) w hj (sol .heads j hj);
       head-most = λ j hj. omega (arith, signed, head-high n (entry t n) {B = 0} w (sol .additions) (λ i hi. omega arith) hj (sol .heads j hj));
-      sum-least = rw (sol .is-sum) (omega (arith, signed, sum-low n (entry t n) w tr, below-zero (n * 100)));
+      sum-least = rw (sol .is-sum) (omega (arith, signed, sum-low n (entry t n) w tr, below-zero (n * order)));
       sum-most = rw (sol .is-sum) (omega (arith, signed, sum-high n (entry t n) w tr));
     }
   where
     w : WithinLimit order n (entry t n)
     w = within order n t square entries
 
-    tr : Transversal n (entry t n) (columns stars)
+    tr : Transversal n (entry t n) (columns starred)
     tr = sol .stars .of-maxima .transversal
 
-    low : (i : ℕ) → i < n → nums adds i ≤ (n - 1) * 200
+    low : (i : ℕ) → i < n → nums adds i ≤ (n - 1) * (2 * order)
     low i hi = omega (arith, addition-bound n (entry t n) {B = 0} w (sol .additions) (λ i hi. omega arith) i hi)
 
--- ---- "The yes-or-no says yes to these additions only"
--- what a length test that does not apply tells
-fitting-given : {n : ℕ} (t : List ℤ) (given : List ℕ) → Clear (canon-tests n t given (length given ∷ [])) → length given ≡ n
-fitting-given {n} t given clear =
-    right-lengths (slices n t (length given ∷ [])) (clear .1 .0) .1 .0
-
-module _ {n : ℕ} {t : List ℤ} {given : List ℕ} {v : Verdict} {adds stars : List ℕ} {heads : List ℤ} {r : Answer} {adds′ stars′ : List ℕ} {heads′ : List ℤ} {s : ℤ}
-    (p : Solves n t adds stars heads r adds′ stars′ heads′) (e : said r ≡ gives s) where
-  pub yes-only : Judges n t given v → judged v ≡ gives true → given ≡ adds′
-  yes-only j says = go j p
-    where
-      go : Judges n t given v → Solves n t adds stars heads r adds′ stars′ heads′ → given ≡ adds′
-      go (declines k l refusal) p = not-both true k [] (sym says ∙ refusal)
-      go (says-no clear no-says f) p = absurd (let z = given-once true false (sym says ∙ no-says) in let y : _≡_ {A = ℕ} 0 1 = cc in omega arith)
-      go (says-yes clear yes-says simple) (refused k l refusal x y z) = not-both s k [] (sym e ∙ refusal)
-      go (says-yes clear yes-says simple) (answered z clear′ says′ la ls lh sol) =
-          let long = fitting-given t given clear in
-          ext-getD 0 given adds′ (long ∙ sym la) (λ i hi. least-once n (entry t n) simple (sol .additions) i (omega arith))
-
--- and it does say yes to them: they are the simplest canon, and within the limit of additions handed in
-pub yes-to-these : {n : ℕ} {t : List ℤ} {v : Verdict} {adds stars : List ℕ} {heads : List ℤ} {r : Answer} {adds′ stars′ : List ℕ} {heads′ : List ℤ} {s : ℤ}
-    → Solves n t adds stars heads r adds′ stars′ heads′ → said r ≡ gives s → Judges n t adds′ v → judged v ≡ gives true
-yes-to-these {s = s} (refused k l says x y z) e j = not-both s k [] (sym e ∙ says)
-yes-to-these {n} {t} {v} {adds} {stars} {heads} {r} {adds′} {stars′} {heads′} (answered z clear says la ls lh sol) e j = go j
-  where
-    square : length t ≡ n * n
-    square = right-lengths (slices n t (length adds ∷ length stars ∷ length heads ∷ [])) (clear .1 .0) .0
-
-    -- the tests of route 1 did not apply, so neither do those of the yes-or-no
-    declined : {k : ℕ} → First (canon-tests n t adds′ (length adds′ ∷ [])) k → ⊥
-    declined (inl p) = clear .0 (p .0)
-    declined (inr (x, inl (inl ne, e))) = ne square
-    declined (inr (x, inl (inr (inl ne), e))) = ne la
-    declined (inr (x, inl (inr (inr none), e))) = none
-    declined (inr (x, inr (y, inl p))) = clear .1 .1 .0 (p .0)
-    declined (inr (x, inr (y, inr (u, inl p)))) =
-        let w = p .0 in
-        omega (
-          arith,
-          w .above,
-          found-within t adds′ stars′ heads′ (sized (clear .0) .1) square (entries-known t (clear .1 .1 .0)) sol .addition-most (w .row) (omega (arith, w .inside)),
-        )
-    declined (inr (x, inr (y, inr (u, inr (w, inl p))))) = p .0 (columns stars′) (sol .stars .of-maxima .transversal)
-    declined (inr (x, inr (y, inr (u, inr (w, inr (q, inl p)))))) = p .0 (sol .additions .canon)
-    declined (inr (x, inr (y, inr (u, inr (w, inr (q, inr p)))))) = p .1
-
-    go : Judges n t adds′ v → judged v ≡ gives true
-    go (declines k l refusal) = absurd (declined l)
-    go (says-yes c yes-says simple) = yes-says
-    go (says-no c no-says f) = absurd (f (sol .additions))
+pub result-within : {n : ℕ} {t : List ℤ} {s : ℤ} (b : Buffers) → WellFormed n t → Result n t b s → Found n (b .adds) (b .heads) s
+result-within {t = t} b w r = found-within t (b .adds) (b .stars) (b .heads) (w .few) (w .square) (w .entries) (r .solution)

@@ -10,7 +10,7 @@ use lib.ListN.{length}
 use Rattle.theory.specs.Lists.{nums, ints, columns, StarList}
 use Rattle.theory.specs.Table.{entry}
 use Rattle.theory.specs.Canon.{Solution}
-use Rattle.theory.specs.Cases.{pendulum}
+use Rattle.theory.specs.Cases.{nothing, pendulum}
 use Rattle.theory.proofs.Cases.{cases-right}
 use Rattle.orders.specs.Refusals.{gives}
 use Rattle.orders.specs.declared.Refusal.{Refusal}
@@ -21,16 +21,18 @@ use Rattle.canon.specs.declared.Answer.{Answer}
 use Rattle.canon.specs.declared.Answer.the-variants.{Sum, Refused}
 use Rattle.canon.specs.declared.Verdict.the-variants as verdict
 use Rattle.canon.proofs.Unique.{One, solved-once}
-use Rattle.canon.proofs.Theorems.{WellFormed, none-if-refused}
+use Rattle.canon.specs.Demands.{Buffers, buffers, WellFormed, Wanted, Route}
+use Rattle.canon.proofs.Theorems.{alone-clear, routed-answers, routed-result}
 
 -- a known solution is what the promise of route 1 leaves open to a call with slices of the wanted length: nothing else
-determined : {n : ℕ} {t : List ℤ} {adds stars : List ℕ} {heads : List ℤ} {r : Answer} {adds′ stars′ : List ℕ} {heads′ : List ℤ} (l s : List ℕ) (h : List ℤ) (z : ℤ)
-    → WellFormed n t adds stars heads → StarList n s → length l ≡ n → length h ≡ n → Solution n (entry t n) (λ i. 0) (nums l) (columns s) (ints h) z
-    → Solves n t adds stars heads r adds′ stars′ heads′ → One r (Sum z) adds′ l stars′ s heads′ h
-determined {r = r} l s h z w ls la lh sol (refused k q says x y u) =
-    absurd (none-if-refused w {r = r} (refused k q says x y u) k [] says (columns s) (sol .stars .of-maxima .transversal))
-determined {adds′ = adds′} {stars′ = stars′} {heads′ = heads′} l s h z w ls la lh sol (answered x clear says la′ ls′ lh′ sol′) =
-    solved-once adds′ l stars′ s heads′ h says refl la′ la ls′ ls lh′ lh sol′ sol
+module _ {n : ℕ} {t : List ℤ} {r : Answer} (b b′ : Buffers) (l s : List ℕ) (h : List ℤ) (z : ℤ) where
+  determined : WellFormed n t → Wanted n b → StarList n s → length l ≡ n → length h ≡ n
+      → Solution n (entry t n) (λ i. 0) (nums l) (columns s) (ints h) z → Route n t nothing b r b′
+      → One r (Sum z) (b′ .adds) l (b′ .stars) s (b′ .heads) h
+  determined w f ls la lh sol p =
+      let (x, says) = routed-answers b b′ p (alone-clear n t w b f (columns s, sol .stars .of-maxima .transversal)) in
+      let v = routed-result b b′ p x says .1 in
+      solved-once (b′ .adds) l (b′ .stars) s (b′ .heads) h says refl (v .adds-long) la (v .star-list) ls (v .heads-long) lh (v .solution) sol
 
 -- ---- `5 0 / 5 0`: additions 0 0, stars 1 2, heads 5 0, sum 5
 abbrev fives : List ℤ
@@ -40,21 +42,21 @@ fives = pos 5 ∷ pos 0 ∷ pos 5 ∷ pos 0 ∷ []
 abbrev ones : List ℤ
 ones = pos 1 ∷ pos 0 ∷ pos 2 ∷ pos 0 ∷ []
 
-module _ {adds stars : List ℕ} {heads : List ℤ} (la : length adds ≡ 2) (ls : length stars ≡ 2) (lh : length heads ≡ 2) {r : Answer} {adds′ stars′ : List ℕ} {heads′ : List ℤ} where
+module _ {adds stars : List ℕ} {heads : List ℤ} {r : Answer} {adds′ stars′ : List ℕ} {heads′ : List ℤ} (f : Wanted 2 (buffers adds stars heads)) where
   at-fives : Solves 2 fives adds stars heads r adds′ stars′ heads′
       → One r (Sum (pos 5)) adds′ (0 ∷ 0 ∷ []) stars′ (1 ∷ 2 ∷ []) heads′ (pos 5 ∷ pos 0 ∷ [])
   at-fives p =
       let c = cases-right .1 .1 .0 in
-      determined (0 ∷ 0 ∷ []) (1 ∷ 2 ∷ []) (pos 5 ∷ pos 0 ∷ []) (pos 5)
-      (record { some = λ e. omega arith; few = omega arith; square = refl; entries = c .entries; adds-long = la; stars-long = ls; heads-long = lh })
+      determined (buffers adds stars heads) (buffers adds′ stars′ heads′) (0 ∷ 0 ∷ []) (1 ∷ 2 ∷ []) (pos 5 ∷ pos 0 ∷ []) (pos 5)
+      (record { some = c .some; few = c .few; square = c .square; entries = c .entries }) f
       (c .comes .1) (c .comes .2) (c .comes .3) (c .comes .4) p
 
   at-ones : Solves 2 ones adds stars heads r adds′ stars′ heads′
       → One r (Sum (pos 2)) adds′ (0 ∷ 0 ∷ []) stars′ (2 ∷ 1 ∷ []) heads′ (pos 2 ∷ pos 0 ∷ [])
   at-ones p =
       let c = cases-right .1 .1 .1 .0 in
-      determined (0 ∷ 0 ∷ []) (2 ∷ 1 ∷ []) (pos 2 ∷ pos 0 ∷ []) (pos 2)
-      (record { some = λ e. omega arith; few = omega arith; square = refl; entries = c .entries; adds-long = la; stars-long = ls; heads-long = lh })
+      determined (buffers adds stars heads) (buffers adds′ stars′ heads′) (0 ∷ 0 ∷ []) (2 ∷ 1 ∷ []) (pos 2 ∷ pos 0 ∷ []) (pos 2)
+      (record { some = c .some; few = c .few; square = c .square; entries = c .entries }) f
       (c .comes .1) (c .comes .2) (c .comes .3) (c .comes .4) p
 
   -- "refusing every table is shut out by 3"

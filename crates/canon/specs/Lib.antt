@@ -1,3 +1,4 @@
--- The promises of the public calls.
+-- The promises of the public calls, and the demands that they meet.
 pub mod Answers
 pub mod Promises
+pub mod Demands

@@ -62,8 +62,11 @@ abbrev pub basic : ℕ → List ℤ → List ℕ → List Test → List Test
 basic n t ks more = 1 given-when OutOfSize n ∷ 2 given-when WrongLength (slices n t ks) ∷ 3 given-when WrongEntry t ∷ more
 
 -- route 1
+abbrev pub table-more : ℕ → List ℤ → List Test
+table-more n t = 6 given-when NoTransversal n t ∷ []
+
 abbrev pub table-tests : ℕ → List ℤ → List ℕ → List Test
-table-tests n t ks = basic n t ks (6 given-when NoTransversal n t ∷ [])
+table-tests n t ks = basic n t ks (table-more n t)
 
 -- route 2 and the yes-or-no: "never give 5 or 8"
 abbrev pub canon-more : ℕ → List ℤ → List ℕ → List Test

@@ -108,3 +108,18 @@ WrongLength (s ∷ ss) = (s .length ≢ s .due) ⊎ WrongLength ss
 abbrev pub RightLengths : List Slice → Type 0
 RightLengths [] = Unit
 RightLengths (s ∷ ss) = (s .length ≡ s .due) × RightLengths ss
+
+-- ---- a call as a whole
+-- the refusal that is due: the first of the tests that applies, which has no value beside its number
+abbrev pub due : List Test → ℕ → List ℕ → Type 0
+due tests k values = First tests k × (values ≡ [])
+
+-- Demand 1 of a call, of which `Due` says when which refusal is due: m is lent at the call, and `Promise r m′` is what the call promises
+-- where r is returned and m′ is lent afterwards.
+pub record Proper {X R M : Type 0} (Due : ℕ → List ℕ → Type 0) (says : R → Said X) (m : M) (Promise : R → M → Type 0) : Type 0 where
+  -- a call has one answer only, whatever is handed to it
+  pub once : (r s : R) (m′ m″ : M) → Promise r m′ → Promise s m″ → (r ≡ s) × (m′ ≡ m″)
+  -- "give the numbered refusal, and then leave each lent buffer holding what it held before"
+  pub refused : (k : ℕ) (values : List ℕ) (r : R) (m′ : M) → Due k values → Promise r m′ → (says r ≡ refuses k values) × (m′ ≡ m)
+  -- and no refusal but the one that is due
+  pub only-due : (k : ℕ) (values : List ℕ) (r : R) (m′ : M) → Promise r m′ → says r ≡ refuses k values → Due k values

@@ -1,3 +1,4 @@
 pub mod Bound
 pub mod Round
 pub mod Useless
+pub mod Demands

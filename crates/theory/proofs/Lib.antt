@@ -7,5 +7,6 @@ pub mod Unique
 pub mod Reach
 pub mod Bounds
 pub mod Search
+pub mod Decisions
 pub mod Cases
 pub mod Exchange

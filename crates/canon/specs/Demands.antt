@@ -1,0 +1,182 @@
+-- The customer's demands 1 to 3, about the promises of the public calls and not about the code: one record a demand, of a table t of n
+-- rows, each field under the sentence that it renders. Then two sentences of document 01 about all calls. (What the demands say of
+-- sheets stands in the crate sheet_round.)
+use mathlib.Core.Path.{_≡_}
+use mathlib.Core.Logic.{_≢_}
+use mathlib.Core.Bool.{true, false}
+use mathlib.Core.List.{List, [], _∷_}
+use Prim.Native.Nat.{ℕ, _+_, _-_, _*_, _≤_, _<_}
+use lib.IntN.{ℤ, pos, negℤ}
+use lib.ListN.{length}
+use lib.Signed.{_≤ℤ_}
+use Rattle.theory.specs.Limits.{rows, order, handed}
+use Rattle.theory.specs.Lists.{nums, ints, columns, StarList}
+use Rattle.theory.specs.Table.{entry, Entries}
+use Rattle.theory.specs.Canon.{Canon, Simplest, Heads, Stars, Balance}
+use Rattle.theory.specs.Cases.{Handed, nothing, additions, stars, Leads, SomeTransversal}
+use Rattle.orders.specs.Refusals.{Test, Applies, First, Among, due, Proper, gives, refuses}
+use Rattle.handed.specs.Conditions.{TooLarge, WrongStars, NoTransversal, NoCanon, NotGreatest, table-tests, canon-tests, star-tests}
+use Rattle.canon.specs.Answers.{said, judged}
+use Rattle.canon.specs.Promises.{Solves, FromCanon, FromStars, Judges}
+use Rattle.canon.specs.declared.Answer.{Answer}
+use Rattle.canon.specs.declared.Verdict.{Verdict}
+
+-- ---- words
+-- what a route is lent to write into
+pub record Buffers : Type 0 where
+  pub adds : List ℕ
+  pub stars : List ℕ
+  pub heads : List ℤ
+
+abbrev pub buffers : List ℕ → List ℕ → List ℤ → Buffers
+buffers a s h = record { adds = a; stars = s; heads = h }
+
+abbrev pub lengths : Buffers → List ℕ
+lengths b = length (b .adds) ∷ length (b .stars) ∷ length (b .heads) ∷ []
+
+-- "a well-formed table"
+pub record WellFormed (n : ℕ) (t : List ℤ) : Type 0 where
+  pub some : 1 ≤ n
+  pub few : n ≤ rows
+  pub square : length t ≡ n * n
+  pub entries : Entries order t
+
+-- "in slices of the wanted length"
+pub record Wanted (n : ℕ) (b : Buffers) : Type 0 where
+  pub adds-long : length (b .adds) ≡ n
+  pub stars-long : length (b .stars) ≡ n
+  pub heads-long : length (b .heads) ≡ n
+
+-- "Three ways to the same canon": the promise of the route that begins with what is handed in, where b is lent at the call, r is
+-- returned, and b′ is lent afterwards
+abbrev pub Route : ℕ → List ℤ → Handed → Buffers → Answer → Buffers → Type 0
+Route n t nothing b r b′ = Solves n t (b .adds) (b .stars) (b .heads) r (b′ .adds) (b′ .stars) (b′ .heads)
+Route n t (additions l) b r b′ = FromCanon n t l (b .adds) (b .stars) (b .heads) r (b′ .adds) (b′ .stars) (b′ .heads)
+Route n t (stars s) b r b′ = FromStars n t s (b .adds) (b .stars) (b .heads) r (b′ .adds) (b′ .stars) (b′ .heads)
+
+-- what that route tests: "size, lengths, orders and lists", and whether it has an answer
+abbrev pub tests : ℕ → List ℤ → Handed → Buffers → List Test
+tests n t nothing b = table-tests n t (lengths b)
+tests n t (additions l) b = canon-tests n t l (length l ∷ lengths b)
+tests n t (stars s) b = star-tests n t s (length s ∷ lengths b)
+
+-- what the yes-or-no tests
+abbrev pub verdict-tests : ℕ → List ℤ → List ℕ → List Test
+verdict-tests n t given = canon-tests n t given (length given ∷ [])
+
+-- "Every call ends properly on every input. Public calls test size, lengths, orders and lists themselves, give the numbered refusal,
+-- and then leave each lent buffer holding what it held before."
+pub record Demand1 (n : ℕ) (t : List ℤ) : Type 0 where
+  pub routes : (start : Handed) (b : Buffers) → Proper (due (tests n t start b)) said b (Route n t start b)
+  -- the yes-or-no is lent nothing that it could write
+  pub verdict : (given : List ℕ) → Proper (due (verdict-tests n t given)) judged (tt {0}) (λ v m. Judges n t given v)
+  -- document 01: "The lowest number that applies is given"
+  pub routes-lowest : (start : Handed) (b : Buffers) (j k : ℕ) → First (tests n t start b) j → Applies (tests n t start b) k → j ≤ k
+  pub verdict-lowest : (given : List ℕ) (j k : ℕ) → First (verdict-tests n t given) j → Applies (verdict-tests n t given) k → j ≤ k
+
+-- what demand 2 says of everything that a route answers
+pub record Answered (n : ℕ) (t : List ℤ) (b : Buffers) : Type 0 where
+  pub wanted : Wanted n b
+  -- "The additions are Jacobi's simplest canon"
+  pub simplest : Simplest n (entry t n) (nums (b .adds))
+  -- "no canon with additions of zero or more has a smaller one in any row"
+  pub none-smaller : (m : ℕ → ℕ) → Canon n (entry t n) m → (i : ℕ) → i < n → nums (b .adds) i ≤ m i
+  -- "The stars are the first complete transversal of column maxima"
+  pub star-list : StarList n (b .stars)
+  pub first-stars : Stars n (entry t n) (nums (b .adds)) (columns (b .stars))
+
+-- "The additions are Jacobi's simplest canon .. The yes-or-no says yes to these additions only."
+pub record Demand2 (n : ℕ) (t : List ℤ) : Type 0 where
+  pub answered : (start : Handed) (b b′ : Buffers) (r : Answer) (s : ℤ) → Route n t start b r b′ → said r ≡ gives s → Answered n t b′
+  -- "Any canon within the stated limit, or any transversal of greatest sum, leads": what is handed in so is answered,
+  pub canon-leads : (l : List ℕ) (b b′ : Buffers) (r : Answer) → WellFormed n t → Wanted n b → Leads n (entry t n) (additions l)
+      → Route n t (additions l) b r b′ → (s : ℤ) × (said r ≡ gives s)
+  pub greatest-leads : (s : List ℕ) (b b′ : Buffers) (r : Answer) → WellFormed n t → Wanted n b → Leads n (entry t n) (stars s)
+      → Route n t (stars s) b r b′ → (s : ℤ) × (said r ≡ gives s)
+  -- "to the same answer": whatever was handed in and lent, two routes that answer return the same and write the same
+  pub same-answer : (start other : Handed) (b b′ c c′ : Buffers) (r q : Answer) (x y : ℤ) → Route n t start b r b′ → said r ≡ gives x
+      → Route n t other c q c′ → said q ≡ gives y → (r ≡ q) × (b′ ≡ c′)
+  -- "other starts are refused": what is answered was a canon within the limit, or a transversal of greatest sum,
+  pub only-these-lead : (start : Handed) (b b′ : Buffers) (r : Answer) (s : ℤ) → Route n t start b r b′ → said r ≡ gives s
+      → Leads n (entry t n) start
+  -- so all else is refused, and the lent buffers hold what they held
+  pub others-refused : (start : Handed) (b b′ : Buffers) (r : Answer) → (Leads n (entry t n) start → ⊥) → Route n t start b r b′
+      → (k : ℕ) × (said r ≡ refuses k []) × (b′ ≡ b)
+  -- in slices of the wanted length: additions by 4 if one is above the limit, and by 7 if they are no canon though a transversal exists,
+  pub too-large-refused : (l : List ℕ) (b b′ : Buffers) (r : Answer) → WellFormed n t → Wanted n b → length l ≡ n → TooLarge l
+      → Route n t (additions l) b r b′ → (said r ≡ refuses 4 []) × (b′ ≡ b)
+  pub no-canon-refused : (l : List ℕ) (b b′ : Buffers) (r : Answer) → WellFormed n t → Wanted n b → SomeTransversal n (entry t n) → length l ≡ n
+      → ((i : ℕ) → i < n → nums l i ≤ handed) → NoCanon n t l → Route n t (additions l) b r b′ → (said r ≡ refuses 7 []) × (b′ ≡ b)
+  -- stars by 5 if one is outside 1 to N or given twice, and by 8 if one is on an absent place or their sum is not the greatest
+  pub wrong-stars-refused : (s : List ℕ) (b b′ : Buffers) (r : Answer) → WellFormed n t → Wanted n b → length s ≡ n → WrongStars n s
+      → Route n t (stars s) b r b′ → (said r ≡ refuses 5 []) × (b′ ≡ b)
+  pub not-greatest-refused : (s : List ℕ) (b b′ : Buffers) (r : Answer) → WellFormed n t → Wanted n b → SomeTransversal n (entry t n)
+      → StarList n s → NotGreatest n t s → Route n t (stars s) b r b′ → (said r ≡ refuses 8 []) × (b′ ≡ b)
+  -- "The yes-or-no says yes to these additions": to those that a route answers,
+  pub yes-to-these : (start : Handed) (b b′ : Buffers) (r : Answer) (s : ℤ) (v : Verdict) → Route n t start b r b′ → said r ≡ gives s
+      → Judges n t (b′ .adds) v → judged v ≡ gives true
+  -- "only"
+  pub yes-only : (start : Handed) (b b′ : Buffers) (r : Answer) (s : ℤ) (given : List ℕ) (v : Verdict) → Route n t start b r b′ → said r ≡ gives s
+      → Judges n t given v → judged v ≡ gives true → given ≡ b′ .adds
+  -- and no to every other canon within the limit
+  pub no-to-others : (start : Handed) (b b′ : Buffers) (r : Answer) (s : ℤ) (given : List ℕ) (v : Verdict) → Route n t start b r b′ → said r ≡ gives s
+      → Leads n (entry t n) (additions given) → given ≢ b′ .adds → Judges n t given v → judged v ≡ gives false
+
+-- "Taken alone, a well-formed table, in slices of the wanted length, is refused exactly when no complete transversal of present orders
+-- exists. Otherwise the sum is the column maxima less the additions, no complete transversal has a greater one, and one reaches it
+-- exactly when each of its orders, with its row's addition, is its column's maximum."
+pub record Demand3 (n : ℕ) (t : List ℤ) : Type 0 where
+  -- "refused .. when": by 6, and the lent buffers hold what they held
+  pub refused-if-none : (b b′ : Buffers) (r : Answer) → WellFormed n t → Wanted n b → Route n t nothing b r b′ → NoTransversal n t
+      → (said r ≡ refuses 6 []) × (b′ ≡ b)
+  -- "exactly"
+  pub none-if-refused : (b b′ : Buffers) (r : Answer) (k : ℕ) (values : List ℕ) → WellFormed n t → Wanted n b → Route n t nothing b r b′
+      → said r ≡ refuses k values → NoTransversal n t
+  -- "Otherwise": a table with a complete transversal is answered, and no other is
+  pub answered-if-some : (b b′ : Buffers) (r : Answer) → WellFormed n t → Wanted n b → Route n t nothing b r b′ → SomeTransversal n (entry t n)
+      → (s : ℤ) × (said r ≡ gives s)
+  pub some-if-answered : (start : Handed) (b b′ : Buffers) (r : Answer) (s : ℤ) → Route n t start b r b′ → said r ≡ gives s
+      → SomeTransversal n (entry t n)
+  -- "the sum is the column maxima less the additions, ..": on every route, the heads being the column maxima
+  pub heads : (start : Handed) (b b′ : Buffers) (r : Answer) (s : ℤ) → Route n t start b r b′ → said r ≡ gives s
+      → Heads n (entry t n) (nums (b′ .adds)) (ints (b′ .heads))
+  pub balance : (start : Handed) (b b′ : Buffers) (r : Answer) (s : ℤ) → Route n t start b r b′ → said r ≡ gives s
+      → Balance n (entry t n) (nums (b′ .adds)) (ints (b′ .heads)) s
+
+-- ---- document 01, "Refusal numbers"
+abbrev pub numbers-of : Handed → List ℕ
+numbers-of nothing = 1 ∷ 2 ∷ 3 ∷ 6 ∷ []
+numbers-of (additions l) = 1 ∷ 2 ∷ 3 ∷ 4 ∷ 6 ∷ 7 ∷ []
+numbers-of (stars s) = 1 ∷ 2 ∷ 3 ∷ 5 ∷ 6 ∷ 8 ∷ []
+
+-- "Route 2 and the yes-or-no never give 5 or 8; route 3 never gives 4 or 7."
+pub record Numbered (n : ℕ) (t : List ℤ) : Type 0 where
+  pub routes : (start : Handed) (b b′ : Buffers) (r : Answer) (k : ℕ) (values : List ℕ) → Route n t start b r b′ → said r ≡ refuses k values
+      → Among (numbers-of start) k
+  pub verdict : (given : List ℕ) (v : Verdict) (k : ℕ) (values : List ℕ) → Judges n t given v → judged v ≡ refuses k values
+      → Among (numbers-of (additions given)) k
+
+-- ---- document 01, the table of limits: what is found
+abbrev pub most-addition : ℕ
+most-addition = (rows - 1) * (2 * order)
+
+abbrev pub most-head : ℕ
+most-head = most-addition + order
+
+abbrev pub most-sum : ℕ
+most-sum = rows * order
+
+pub record Found (n : ℕ) (adds : List ℕ) (heads : List ℤ) (s : ℤ) : Type 0 where
+  -- "addition found: at most (N − 1) × 200, so 6,200"
+  pub addition : (i : ℕ) → i < n → nums adds i ≤ (n - 1) * (2 * order)
+  pub addition-most : (i : ℕ) → i < n → nums adds i ≤ most-addition
+  -- "column maximum found: −100 to 6,300"
+  pub head-least : (j : ℕ) → j < n → negℤ (pos order) ≤ℤ ints heads j
+  pub head-most : (j : ℕ) → j < n → ints heads j ≤ℤ pos most-head
+  -- "sum: −3,200 to 3,200, signed"
+  pub sum-least : negℤ (pos most-sum) ≤ℤ s
+  pub sum-most : s ≤ℤ pos most-sum
+
+-- every route keeps them
+pub record Limited (n : ℕ) (t : List ℤ) : Type 0 where
+  pub found : (start : Handed) (b b′ : Buffers) (r : Answer) (s : ℤ) → Route n t start b r b′ → said r ≡ gives s → Found n (b′ .adds) (b′ .heads) s

@@ -1,0 +1,2 @@
+-- What the customer's demands say of sheets.
+pub mod Demands

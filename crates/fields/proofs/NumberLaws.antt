@@ -9,7 +9,8 @@ use lib.ListN.{length, getD, take, drop, take-append-drop, drop-of-length-le, le
 use lib.Seq.{take-suc, drop-at, drop-cons, drop-append-add, length-take-le}
 use Rattle.sheet.specs.Text.{blank, text}
 use Rattle.sheet.proofs.Bytes.{run-prefix, each-cons, each-one}
-use Rattle.sheet.proofs.Numbers.{Digit, NoDigit, text-small, text-next, text-digits, text-some, text-first, value-text, value-append, value-grows, valueFrom, number-once}
+use Rattle.sheet.proofs.Numbers.{Digit, NoDigit, text-small, text-next, text-digits, text-some, text-first, number-once}
+use Rattle.sheet.proofs.Numbers.{value-text, value-append, value-grows, valueFrom}
 use Rattle.sheet.proofs.Lines.{blank-stops}
 use Rattle.fields.specs.Fields.{FrontIs, FieldIs, NumberIs}
 

@@ -1,6 +1,7 @@
 -- What is kept of the lines so far, and one line more. Assumes nothing.
 use mathlib.Core.Path.{_≡_, refl, sym, ap, subst, _∙_}
 use mathlib.Core.Bool.{Bool, true, false, not}
+use mathlib.Core.Logic.{_≢_}
 use mathlib.Core.List.{List, [], _∷_, _++_, append-assoc, append-nil}
 use Prim.Native.Nat.{ℕ, zero, suc, _+_, _-_, _*_, _<_, _≤_}
 use native.Mathlib.Omega.{arith}
@@ -15,8 +16,16 @@ use Rattle.sheet.specs.Labels.{width, Form, New, Labels, filled, slots, slot, R
 use Rattle.sheet.specs.Reading.{State, After, heading, row-label, col-label, order-line, withRow, withCol, withOrder}
 use Rattle.sheet.proofs.Bytes.{clash}
 use Rattle.sheet.proofs.Slots.{Short, labels-short, slots-length, slots-append, slot-at, filled-once, labels-more, length-more}
+use Rattle.sheet.proofs.Lines.{rank}
 use Rattle.sheet.proofs.Orders.{cell}
-use Rattle.reader.specs.Parts.{OrderIs, Holding, LabelKept, Store, store, Holds, Due, LineKept}
+use Rattle.fields.specs.Fields.{LineEnd}
+use Rattle.fields.proofs.LineLaws.{line-none, line-inside, line-found, line-only}
+use Rattle.reader.specs.declared.Section.{Section}
+use Rattle.reader.specs.declared.Section.the-variants.{Rows, Cols, Orders}
+use Rattle.reader.specs.declared.Fit.{Fit}
+use Rattle.reader.specs.declared.Fit.the-variants.{Next, Nothing as NoFit}
+use Rattle.reader.specs.declared.Kept.the-variants.{Line, Nothing as NoLine}
+use Rattle.reader.specs.Parts.{OrderIs, Holding, LabelKept, Store, store, Holds, InSection, LineKept, LineTaken, FrontKept}
 
 -- parts of a run of one value
 pub take-replicate : {A : Type 0} (k n : ℕ) (a : A) → k ≤ n → take k (replicate n a) ≡ replicate k a
@@ -99,14 +108,8 @@ module _ (b : List ℕ) (ls : List (List ℕ)) (l : List ℕ) (h : Holding b (ls
         alike = slot-old k g ∙ ap filled e ∙ sym slot-last;
       })
 
-no : {X : Type 0} → true ≡ false → X
-no e = clash {t = true} refl e
-
-no′ : {X : Type 0} → false ≡ true → X
-no′ e = clash {t = false} e refl
-
 pub unkept-label : (ls : List (List ℕ)) (l b : List ℕ) → (Form l → New ls l → ⊥) → LabelKept ls l false b
-unkept-label ls l b n = record { fit = λ e. no′ e; unfit = λ e. n }
+unkept-label ls l b n = record { fit = λ e. clash {t = false} e refl; unfit = λ e. n }
 
 -- a label put into the next place is kept unless it stands in an earlier place too
 module _ (b : List ℕ) (ls : List (List ℕ)) (l : List ℕ) (h : Holding b ls) (p : Labels ls) (f : Form l) (few : length ls < rows) where
@@ -121,7 +124,7 @@ module _ (b : List ℕ) (ls : List (List ℕ)) (l : List ℕ) (h : Holding b ls)
   compared false t =
       record {
         fit = λ e. (f, unrepeated-new put ls l put-holds p f few (t .fails refl), put-holds);
-        unfit = λ e. no e;
+        unfit = λ e. clash {t = true} refl e;
       }
 
   pub compared-label : (k : ℕ) (again : Bool) → length ls ≡ k → Tells again (Repeated (paste b (width * k) l (length l)) k)
@@ -167,98 +170,133 @@ place-small n i j h p q = omega (arith, cell n i j p q, mul-le-mul {n₁ = n} {m
 pub row-small : (n i : ℕ) → n ≤ rows → i < n → i * n ≤ rows * rows
 row-small n i h p = mul-le-mul {n₁ = i} {m₁ = n} {n₂ = rows} {m₂ = rows} (omega arith) h
 
--- the ways an order line is kept or not
-module _ (kept : Store) (n m : ℕ) (l : List ℕ) (st : State) (h : Holds kept st) (d : Due 2 n 0 m st) where
-  -- only an order line can stand in the section of orders
-  pub orders-only : (st′ : State) → After st l st′ → (i : ℕ) × (j : ℕ) × (v : ℤ) × OrderIs n l i j v × (length (st .entries) ≤ i * n + j)
+-- ---- a line that is kept, and one that is not
+module _ {section : Section} {n k m : ℕ} {st : State} {l : List ℕ} {t : List ℤ} {b c : List ℕ} where
+  pub line-fit : (next : ℕ) (st′ : State) → After st l st′ → InSection section n k m st′ → Holds (store t b c next) st′
+      → LineKept section n k m st l (Next next) t b c
+  line-fit next st′ a i h =
+      record {
+        fit = λ x e. let f : next ≡ x = cc in (st′, a, i, subst (λ y. Holds (store t b c y) st′) f h);
+        unfit = λ e. absurd (let z : _≡_ {A = ℕ} 0 1 = cc in omega arith);
+      }
+
+  pub line-unfit : ((st′ : State) → After st l st′ → ⊥) → LineKept section n k m st l NoFit t b c
+  line-unfit n = record { fit = λ x e. absurd (let z : _≡_ {A = ℕ} 0 1 = cc in omega arith); unfit = λ e. n }
+
+-- an order line: only one can stand in the section of orders, and it is kept at a place that no line so far has reached
+module _ (kept : Store) (n k m : ℕ) (l : List ℕ) (st : State) (h : Holds kept st) (d : InSection Orders n k (suc m) st) where
+  orders-only : (st′ : State) → After st l st′ → (i : ℕ) × (j : ℕ) × (v : ℤ) × OrderIs n l i j v × (length (st .entries) ≤ i * n + j)
   orders-only st′ (heading c z g e) = absurd (omega (arith, d .left-is))
-  orders-only st′ (row-label m′ s z f g e) = absurd (omega (arith, d .section-is))
-  orders-only st′ (col-label m′ s z f g e) = absurd (omega (arith, d .section-is))
+  orders-only st′ (row-label m′ s z f g e) = absurd (omega (arith, ap rank s, ap rank (d .section-is)))
+  orders-only st′ (col-label m′ s z f g e) = absurd (omega (arith, ap rank s, ap rank (d .section-is)))
   orders-only st′ (order-line m′ i j v s z p q o r u e) =
-      let w : length (st .row-labels) ≡ n = d .in-orders refl in
+      let w : length (st .row-labels) ≡ n = d .rows-are in
       (i, j, v, record { row = omega arith; col = omega arith; order-stands = o; is = u }, rw w at r)
 
-  pub unkept-order : (kept′ : Store) → ((i j : ℕ) (v : ℤ) → OrderIs n l i j v → length (st .entries) ≤ i * n + j → ⊥) → LineKept st l false kept′
-  unkept-order kept′ g =
-      record {
-        fit = λ e. no′ e;
-        unfit = λ e st′ a. let o = orders-only st′ a in g (o .0) (o .1) (o .2) (o .3) (o .4);
-      }
+  pub unkept-order : (t : List ℤ) (b c : List ℕ) → ((i j : ℕ) (v : ℤ) → OrderIs n l i j v → length (st .entries) ≤ i * n + j → ⊥)
+      → LineKept Orders n (k + 1) m st l NoFit t b c
+  unkept-order t b c g = line-unfit (λ st′ a. let o = orders-only st′ a in g (o .0) (o .1) (o .2) (o .3) (o .4))
 
   pub kept-order : (i j : ℕ) (v : ℤ) → n ≤ rows → OrderIs n l i j v → length (st .entries) ≤ i * n + j
-      → LineKept st l true (store (set (kept .table) (i * n + j) v) (kept .row-bytes) (kept .col-bytes) (i * n + j + 1))
+      → LineKept Orders n (k + 1) m st l (Next (i * n + j + 1)) (set (kept .table) (i * n + j) v) (kept .row-bytes) (kept .col-bytes)
   kept-order i j v few o r =
-      let w : length (st .row-labels) ≡ n = d .in-orders refl in
+      let w : length (st .row-labels) ≡ n = d .rows-are in
       let p = i * n + j in
       let q : p < rows * rows = place-small n i j few (o .row) (o .col) in
+      line-fit (p + 1) (withOrder st m p v)
+      (order-line m i j v (d .section-is) (d .left-is) (omega (arith, o .row)) (omega (arith, o .col)) (o .order-stands) (rw w r) (o .is)
+      (ap (λ x. withOrder st m (i * x + j) v) (sym w)))
+      (record { section-is = refl; left-is = refl; rows-are = d .rows-are; cols-are = d .cols-are })
+      (record {
+        rows-held = h .rows-held;
+        cols-held = h .cols-held;
+        rows-stand = h .rows-stand;
+        cols-stand = h .cols-stand;
+        table-held = ap (λ x. set x p v) (h .table-held) ∙ table-more (st .entries) p v (rows * rows) r q;
+        next-held = sym (more-length (st .entries) p v r);
+        few = omega (arith, more-length (st .entries) p v r);
+      })
+
+-- a label of a row: only one can stand in the section of rows
+module _ (kept : Store) (n k m : ℕ) (l : List ℕ) (st : State) (h : Holds kept st) (d : InSection Rows n k (suc m) st) (fits : Bool) (b : List ℕ)
+    (t : LabelKept (st .row-labels) l fits b) where
+  pub kept-row : fits ≡ true → LineKept Rows n (k + 1) m st l (Next (kept .next)) (kept .table) b (kept .col-bytes)
+  kept-row e =
+      let f = t .fit e in
+      line-fit (kept .next) (withRow st m l) (row-label m (d .section-is) (d .left-is) (f .0) (f .1) refl)
+      (record { section-is = refl; left-is = refl; rows-are = length-more (st .row-labels) l ∙ ap (λ x. x + 1) (d .rows-are); cols-are = d .cols-are })
+      (record {
+        rows-held = f .2;
+        cols-held = h .cols-held;
+        rows-stand = labels-more (st .row-labels) l (h .rows-stand) (f .0) (f .1);
+        cols-stand = h .cols-stand;
+        table-held = h .table-held;
+        next-held = h .next-held;
+        few = h .few;
+      })
+
+  pub unkept-row : fits ≡ false → LineKept Rows n (k + 1) m st l NoFit (kept .table) b (kept .col-bytes)
+  unkept-row e = line-unfit go
+    where
+      go : (st′ : State) → After st l st′ → ⊥
+      go st′ (heading c z g f) = omega (arith, d .left-is)
+      go st′ (row-label m′ z y f g x) = t .unfit e f g
+      go st′ (col-label m′ z y f g x) = omega (arith, ap rank z, ap rank (d .section-is))
+      go st′ (order-line m′ i j v z y p q o r u x) = omega (arith, ap rank z, ap rank (d .section-is))
+
+-- the same of a column
+module _ (kept : Store) (n k m : ℕ) (l : List ℕ) (st : State) (h : Holds kept st) (d : InSection Cols n k (suc m) st) (fits : Bool) (b : List ℕ)
+    (t : LabelKept (st .col-labels) l fits b) where
+  pub kept-col : fits ≡ true → LineKept Cols n (k + 1) m st l (Next (kept .next)) (kept .table) (kept .row-bytes) b
+  kept-col e =
+      let f = t .fit e in
+      line-fit (kept .next) (withCol st m l) (col-label m (d .section-is) (d .left-is) (f .0) (f .1) refl)
+      (record { section-is = refl; left-is = refl; rows-are = d .rows-are; cols-are = length-more (st .col-labels) l ∙ ap (λ x. x + 1) (d .cols-are) })
+      (record {
+        rows-held = h .rows-held;
+        cols-held = f .2;
+        rows-stand = h .rows-stand;
+        cols-stand = labels-more (st .col-labels) l (h .cols-stand) (f .0) (f .1);
+        table-held = h .table-held;
+        next-held = h .next-held;
+        few = h .few;
+      })
+
+  pub unkept-col : fits ≡ false → LineKept Cols n (k + 1) m st l NoFit (kept .table) (kept .row-bytes) b
+  unkept-col e = line-unfit go
+    where
+      go : (st′ : State) → After st l st′ → ⊥
+      go st′ (heading c z g f) = omega (arith, d .left-is)
+      go st′ (row-label m′ z y f g x) = omega (arith, ap rank z, ap rank (d .section-is))
+      go st′ (col-label m′ z y f g x) = t .unfit e f g
+      go st′ (order-line m′ i j v z y p q o r u x) = omega (arith, ap rank z, ap rank (d .section-is))
+
+-- ---- the line at the front of a text: the text has none, or it is not kept, or it is
+module _ {section : Section} {n k m : ℕ} {st : State} {s : List ℕ} {t : List ℤ} {b c : List ℕ} {e : ℕ} (end : LineEnd s e) where
+  pub front-missing : e ≡ length s → FrontKept section n k m st s NoLine t b c
+  front-missing z =
       record {
-        fit = λ e. (
-          withOrder st m p v,
-          order-line m i j v (omega (arith, d .section-is)) (d .left-is) (omega (arith, o .row)) (omega (arith, o .col)) (o .order-stands)
-              (rw w r) (o .is) (ap (λ x. withOrder st m (i * x + j) v) (sym w)),
-          record {
-            rows-held = h .rows-held;
-            cols-held = h .cols-held;
-            rows-stand = h .rows-stand;
-            cols-stand = h .cols-stand;
-            table-held = ap (λ x. set x p v) (h .table-held) ∙ table-more (st .entries) p v (rows * rows) r q;
-            next-held = sym (more-length (st .entries) p v r);
-            few = omega (arith, more-length (st .entries) p v r);
-          },
-        );
-        unfit = λ e. no e;
+        fit = λ x y f. absurd (let o : _≡_ {A = ℕ} 0 1 = cc in omega arith);
+        unfit = λ f l x st′ g a. line-none end z l x g;
       }
 
--- the ways a label is kept or not
-module _ (kept : Store) (n k m : ℕ) (l : List ℕ) (st : State) (h : Holds kept st) where
-  pub kept-row : Due 0 n k m st → (fits : Bool) (b : List ℕ) → LabelKept (st .row-labels) l fits b
-      → LineKept st l fits (store (kept .table) b (kept .col-bytes) (kept .next))
-  kept-row d fits b t =
-      record {
-        fit = λ e. let f = t .fit e in (
-          withRow st m l,
-          row-label m (d .section-is) (d .left-is) (f .0) (f .1) refl,
-          record {
-            rows-held = f .2;
-            cols-held = h .cols-held;
-            rows-stand = labels-more (st .row-labels) l (h .rows-stand) (f .0) (f .1);
-            cols-stand = h .cols-stand;
-            table-held = h .table-held;
-            next-held = h .next-held;
-            few = h .few;
-          },
-        );
-        unfit = λ e st′ a. go e a;
-      }
-    where
-      go : {st′ : State} → fits ≡ false → After st l st′ → ⊥
-      go e (heading c z g f) = omega (arith, d .left-is)
-      go e (row-label m′ z y f g x) = t .unfit e f g
-      go e (col-label m′ z y f g x) = omega (arith, d .section-is)
-      go e (order-line m′ i j v z y p q o r u x) = omega (arith, d .section-is)
+  module _ (more : e ≢ length s) (r : Fit) (told : LineKept section n k m st (take e s) r t b c) where
+    pub front-unfit : r ≡ NoFit → FrontKept section n k m st s NoLine t b c
+    front-unfit z =
+        record {
+          fit = λ x y f. absurd (let o : _≡_ {A = ℕ} 0 1 = cc in omega arith);
+          unfit = λ f l x st′ g a. told .unfit z st′ (subst (λ y. After st y st′) (line-only end more l x g) a);
+        }
 
-  pub kept-col : Due 1 n k m st → (fits : Bool) (b : List ℕ) → LabelKept (st .col-labels) l fits b
-      → LineKept st l fits (store (kept .table) (kept .row-bytes) b (kept .next))
-  kept-col d fits b t =
-      record {
-        fit = λ e. let f = t .fit e in (
-          withCol st m l,
-          col-label m (d .section-is) (d .left-is) (f .0) (f .1) refl,
-          record {
-            rows-held = h .rows-held;
-            cols-held = f .2;
-            rows-stand = h .rows-stand;
-            cols-stand = labels-more (st .col-labels) l (h .cols-stand) (f .0) (f .1);
-            table-held = h .table-held;
-            next-held = h .next-held;
-            few = h .few;
-          },
-        );
-        unfit = λ e st′ a. go e a;
-      }
-    where
-      go : {st′ : State} → fits ≡ false → After st l st′ → ⊥
-      go e (heading c z g f) = omega (arith, d .left-is)
-      go e (row-label m′ z y f g x) = omega (arith, d .section-is)
-      go e (col-label m′ z y f g x) = t .unfit e f g
-      go e (order-line m′ i j v z y p q o r u x) = omega (arith, d .section-is)
+    pub front-fit : (next : ℕ) → r ≡ Next next → FrontKept section n k m st s (Line next (e + 1)) t b c
+    front-fit next z =
+        let f = told .fit next z in
+        let taken : LineTaken st s (e + 1) (f .0) =
+        record { line = take e s; stands = f .1; ended = line-found end more; inside = omega (arith, line-inside end more) } in
+        record {
+          fit = λ x y g.
+              let p : next ≡ x = cc in
+              let q : e + 1 ≡ y = cc in
+              (f .0, subst (λ i. LineTaken st s i (f .0)) q taken, f .2, subst (λ i. Holds (store t b c i) (f .0)) p (f .3));
+          unfit = λ g. absurd (let o : _≡_ {A = ℕ} 0 1 = cc in omega arith);
+        }

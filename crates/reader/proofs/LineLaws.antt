@@ -1,19 +1,23 @@
 -- Order lines and headings. Assumes nothing.
 use mathlib.Core.Path.{_≡_, ap, subst, _∙_}
+use mathlib.Core.Logic.{_≢_}
 use mathlib.Core.List.{List, _∷_, _++_}
 use Prim.Native.Nat.{ℕ, _+_, _-_, _*_, _≤_}
 use native.Mathlib.Omega.{arith}
 use native.Mathlib.Nat.{mul-le-mul}
 use lib.IntN.{ℤ}
-use lib.ListN.{drop}
+use lib.ListN.{length, take, drop}
 use Rattle.theory.specs.Limits.{rows, order}
 use Rattle.sheet.specs.Text.{blank, text, signed, rowsHead, colsHead, ordersHead}
 use Rattle.fields.specs.declared.Unsigned.{Unsigned}
-use Rattle.fields.specs.Fields.{FieldIs, SignedIs, CountIs, UnsignedOf}
+use Rattle.sheet.specs.Reading.{opening, of-rows, of-cols, Heading}
+use Rattle.fields.specs.Fields.{LineEnd, FieldIs, SignedIs, CountIs, UnsignedOf}
 use Rattle.fields.proofs.Answers.{unsigned-as}
+use Rattle.fields.proofs.LineLaws.{line-none, line-inside, line-found, line-only}
 use Rattle.fields.proofs.NumberLaws.{field-of, behind-field}
+use Rattle.reader.specs.declared.Section.{Section}
 use Rattle.reader.specs.declared.Place.the-variants.{At, Nothing as NoPlace}
-use Rattle.reader.specs.Parts.{OrderIs, PlaceOf, HeadingOf}
+use Rattle.reader.specs.Parts.{OrderIs, PlaceOf, before, HeadingIs}
 
 -- how the answer of `order_line` comes to tell of P
 module _ {P : ℕ → ℕ → ℤ → Type 0} where
@@ -63,21 +67,33 @@ module _ (n : ℕ) (l : List ℕ) where
                 ∙ ap (λ y. text (i - 1 + 1) ++ blank ∷ (text y ++ blank ∷ signed v)) q;
           }
 
--- the three headings
-module _ (l : List ℕ) (n : ℕ) where
-  pub heading-rows : (s : ℕ) (r : Unsigned) → s ≡ 0 → UnsignedOf (CountIs l rowsHead 1 rows) r → HeadingOf l s n r
-  heading-rows s r e t =
-      unsigned-as (λ c f. rw e (f .least, f .most, f .is)) (λ c h. let g = rw e at h in record { least = g .0; most = g .1; is = g .2 }) t
+-- the three headings: each is its bytes and then a count
+module _ (n : ℕ) (l : List ℕ) {r : Unsigned} where
+  pub heading-rows : UnsignedOf (CountIs l rowsHead 1 rows) r → UnsignedOf (λ c. Heading opening n c l) r
+  heading-rows = unsigned-as (λ c f. (f .least, f .most, f .is)) (λ c h. record { least = h .0; most = h .1; is = h .2 })
 
-  pub heading-cols : (s : ℕ) (r : Unsigned) → s ≡ 1 → UnsignedOf (CountIs l colsHead n n) r → HeadingOf l s n r
-  heading-cols s r e t =
-      unsigned-as (λ c f. rw e (omega (arith, f .least, f .most), f .is))
-      (λ c h. let g = rw e at h in record { least = omega (arith, g .0); most = omega (arith, g .0); is = g .1 }) t
+  pub heading-cols : UnsignedOf (CountIs l colsHead n n) r → UnsignedOf (λ c. Heading of-rows n c l) r
+  heading-cols =
+      unsigned-as (λ c f. (omega (arith, f .least, f .most), f .is))
+      (λ c h. record { least = omega (arith, h .0); most = omega (arith, h .0); is = h .1 })
 
-  pub heading-orders : (s : ℕ) (r : Unsigned) → s ≡ 2 → UnsignedOf (CountIs l ordersHead 0 (n * n)) r → HeadingOf l s n r
-  heading-orders s r e t =
-      unsigned-as (λ c f. rw e (f .least, f .most, f .is)) (λ c h. let g = rw e at h in record { least = g .0; most = g .1; is = g .2 }) t
+  pub heading-orders : UnsignedOf (CountIs l ordersHead 0 (n * n)) r → UnsignedOf (λ c. Heading of-cols n c l) r
+  heading-orders = unsigned-as (λ c f. (f .least, f .most, f .is)) (λ c h. record { least = h .0; most = h .1; is = h .2 })
 
--- a square of at most N rows
+-- a section's heading at the front of a text: the text has no first line, or that is no heading, or it is one
+module _ (section : Section) (n : ℕ) {s : List ℕ} {e : ℕ} (end : LineEnd s e) where
+  pub heading-missing : e ≡ length s → (c k : ℕ) → HeadingIs section n s c k → ⊥
+  heading-missing z c k h = line-none end z (h .line) (drop k s) (h .ended)
+
+  module _ (more : e ≢ length s) where
+    pub heading-other : ((c : ℕ) → Heading (before section) n c (take e s) → ⊥) → (c k : ℕ) → HeadingIs section n s c k → ⊥
+    heading-other none c k h =
+        none c (subst (λ y. Heading (before section) n c y) (line-only end more (h .line) (drop k s) (h .ended)) (h .is))
+
+    pub heading-good : (c : ℕ) → Heading (before section) n c (take e s) → HeadingIs section n s c (e + 1)
+    heading-good c h =
+        record { line = take e s; is = h; ended = line-found end more; inside = omega (arith, line-inside end more) }
+
+-- a square within the limit of rows
 pub square-small : (n : ℕ) → n ≤ rows → n * n ≤ rows * rows
 square-small n h = mul-le-mul h h

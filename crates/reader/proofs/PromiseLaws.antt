@@ -2,10 +2,10 @@
 use mathlib.Core.Path.{_≡_, refl, sym, ap, _∙_}
 use mathlib.Core.Logic.{inl, inr}
 use mathlib.Core.List.{List, [], _∷_, _++_}
-use Prim.Native.Nat.{ℕ, _+_, _-_, _*_, _<_, _≤_}
+use Prim.Native.Nat.{ℕ, _+_, _-_, _*_, _≤_}
 use native.Mathlib.Omega.{arith}
 use lib.IntN.{ℤ}
-use lib.ListN.{length, take, drop, replicate, length-append, length-drop, drop-of-length-le}
+use lib.ListN.{length, take, drop, replicate, length-append}
 use lib.Seq.{take-at, take-append-add}
 use Rattle.theory.specs.Limits.{rows, sheet}
 use Rattle.theory.specs.Table.{absent}
@@ -13,17 +13,16 @@ use Rattle.orders.specs.Refusals.{Clear, WrongLength, gives, refuses}
 use Rattle.orders.proofs.Refusals.{right-not-wrong}
 use Rattle.sheet.specs.Text.{over}
 use Rattle.sheet.specs.Labels.{width, slots, Labels}
-use Rattle.sheet.specs.Reading.{start, tableOf, good, wrong, Reads, done, TooLong, WrongLine}
+use Rattle.sheet.specs.Reading.{tableOf, TooLong, WrongLine}
 use Rattle.sheet.proofs.Slots.{slots-length, labels-short}
 use Rattle.sheet.proofs.Matching.{read-is-written}
-use Rattle.reader.specs.declared.Walked.{Walked}
-use Rattle.reader.specs.Parts.{Holding, WalkTells}
+use Rattle.reader.specs.Parts.{Holding, Ends}
 use Rattle.reader.specs.Promise.{Lent, lent, Wanted, slices, reader-tests, ReadPromise, refused, wrong-line, read}
 use Rattle.reader.proofs.KeepLaws.{take-replicate}
-use Rattle.reader.proofs.WalkLaws.{surplus, places-few}
+use Rattle.reader.proofs.WalkLaws.{places-few}
 
 -- the three lengths
-pub wanted : (t : List ℤ) (r c : List ℕ) → length t ≡ 1024 → length r ≡ 256 → length c ≡ 256 → Wanted (lent t r c)
+pub wanted : (t : List ℤ) (r c : List ℕ) → length t ≡ rows * rows → length r ≡ width * rows → length c ≡ width * rows → Wanted (lent t r c)
 wanted t r c p q u = record { table-length = p; rows-length = q; cols-length = u }
 
 -- to which refusal 2 does not apply
@@ -45,66 +44,57 @@ module _ (s : List ℕ) (m : Lent) (lengths : Wanted m) where
   refuse-line few k line = wrong-line k (all-clear few) line refl refl
 
 -- the first n × n entries of what is kept are the table's
-table-front : (e : List ℤ) (k : ℕ) → length e ≤ k → k ≤ 1024 → take k (e ++ replicate (1024 - length e) absent) ≡ e ++ replicate (k - length e) absent
+table-front : (e : List ℤ) (k : ℕ) → length e ≤ k → k ≤ rows * rows
+    → take k (e ++ replicate (rows * rows - length e) absent) ≡ e ++ replicate (k - length e) absent
 table-front e k h g =
     let q : k ≡ length e + (k - length e) = omega arith in
-    ap (λ i. take i (e ++ replicate (1024 - length e) absent)) q
-    ∙ take-append-add e (replicate (1024 - length e) absent) (k - length e)
-    ∙ ap (λ x. e ++ x) (take-replicate (k - length e) (1024 - length e) absent (omega arith))
+    ap (λ i. take i (e ++ replicate (rows * rows - length e) absent)) q
+    ∙ take-append-add e (replicate (rows * rows - length e) absent) (k - length e)
+    ∙ ap (λ x. e ++ x) (take-replicate (k - length e) (rows * rows - length e) absent (omega arith))
 
--- the first 8 × n bytes of what is kept are the labels'
-labels-front : (b : List ℕ) (ls : List (List ℕ)) → Holding b ls → Labels ls → take (8 * length ls) b ≡ slots ls
+-- the first bytes of a label buffer are the labels'
+labels-front : (b : List ℕ) (ls : List (List ℕ)) → Holding b ls → Labels ls → take (width * length ls) b ≡ slots ls
 labels-front b ls h p =
-    ap (λ x. take (8 * length ls) x) h
-    ∙ take-at (slots ls) (replicate (width * rows - width * length ls) 0) (8 * length ls) (slots-length ls (labels-short ls p))
+    ap (λ x. take (width * length ls) x) h
+    ∙ take-at (slots ls) (replicate (width * rows - width * length ls) 0) (width * length ls) (slots-length ls (labels-short ls p))
 
 -- a copy of the first k, where they are the whole of x, is x over the room
 copied : {A : Type 0} (x from room : List A) (k : ℕ) → length x ≡ k → take k from ≡ x → take k from ++ drop k room ≡ over x room
 copied x from room k e f = ap (λ y. y ++ drop k room) f ∙ ap (λ i. x ++ drop i room) (sym e)
 
-module _ (s : List ℕ) (m : Lent) (w : Wanted m) (few : length s ≤ sheet) (r : Walked) (kept-table : List ℤ) (kept-rows kept-cols : List ℕ)
-    (t : WalkTells s r kept-table kept-rows kept-cols) (z : r .wrong ≡ 0) where
-  -- bytes after the last line
-  pub read-surplus : r .at < length s → ReadPromise s m m (refuses 10 (r .line ∷ []))
-  read-surplus h =
-      let st = t .ended z .0 in
-      let e = t .ended z .1 in
-      refuse-line s m w few (r .line)
-      (e .whole (wrong (r .line)) (surplus st (r .line) (drop (r .at) s) (e .final) (omega (arith, length-drop (r .at) s))))
+copied-labels : (b room : List ℕ) (ls : List (List ℕ)) (n : ℕ) → length ls ≡ n → Holding b ls → Labels ls
+    → take (width * n) b ++ drop (width * n) room ≡ over (slots ls) room
+copied-labels b room ls n e h p =
+    ap (λ i. take (width * i) b ++ drop (width * i) room) (sym e)
+    ∙ copied (slots ls) b room (width * length ls) (slots-length ls (labels-short ls p)) (labels-front b ls h p)
 
-  -- a good sheet, whose table and labels were copied out
-  pub read-good : length s ≤ r .at → (t′ : List ℤ) (r′ c′ : List ℕ)
-      → t′ ≡ take (r .n * r .n) kept-table ++ drop (r .n * r .n) (m .table)
-      → r′ ≡ take (8 * r .n) kept-rows ++ drop (8 * r .n) (m .row-labels)
-      → c′ ≡ take (8 * r .n) kept-cols ++ drop (8 * r .n) (m .col-labels) → ReadPromise s m (lent t′ r′ c′) (gives (r .n))
-  read-good h t′ r′ c′ p q u =
-      let st = t .ended z .0 in
-      let e = t .ended z .1 in
-      let table = tableOf st in
-      let g : Reads start 1 s (good table) = e .whole (good table) (done (drop-of-length-le s {i = r .at} h) (e .final) refl) in
-      let n : r .n ≡ length (st .row-labels) = e .rows-are in
-      let c : r .n ≡ length (st .col-labels) = omega (arith, e .cols-are) in
-      let sq : length (table .entries) ≡ r .n * r .n = read-is-written s table g .stands .square ∙ ap (λ x. x * x) (sym n) in
-      let fit : length (st .entries) ≤ r .n * r .n =
+-- a good sheet, whose table and labels were copied out
+module _ {s : List ℕ} {n : ℕ} {t : List ℤ} {a b : List ℕ} (e : Ends s n t a b) (m : Lent) where
+  copied-table : take (n * n) t ++ drop (n * n) (m .table) ≡ over (tableOf (e .st) .entries) (m .table)
+  copied-table =
+      let st = e .st in
+      let sq : length (tableOf st .entries) ≡ n * n =
+      read-is-written s (tableOf st) (e .read) .stands .square ∙ ap (λ x. x * x) (e .rows-are) in
+      let fit : length (st .entries) ≤ n * n =
       omega (
         arith,
         length-append (st .entries) (replicate (length (st .row-labels) * length (st .row-labels) - length (st .entries)) absent),
       ) in
-      let tf : take (r .n * r .n) kept-table ≡ table .entries =
-      ap (λ x. take (r .n * r .n) x) (e .held .table-held)
-      ∙ table-front (st .entries) (r .n * r .n) fit (places-few t z)
-      ∙ ap (λ x. st .entries ++ replicate (x * x - length (st .entries)) absent) n in
-      let rf : take (8 * r .n) kept-rows ≡ slots (st .row-labels) =
-      ap (λ x. take (8 * x) kept-rows) n ∙ labels-front kept-rows (st .row-labels) (e .held .rows-held) (e .held .rows-stand) in
-      let cf : take (8 * r .n) kept-cols ≡ slots (st .col-labels) =
-      ap (λ x. take (8 * x) kept-cols) c ∙ labels-front kept-cols (st .col-labels) (e .held .cols-held) (e .held .cols-stand) in
-      let rl : length (slots (st .row-labels)) ≡ 8 * r .n =
-      slots-length (st .row-labels) (labels-short (st .row-labels) (e .held .rows-stand)) ∙ omega arith in
-      let cl : length (slots (st .col-labels)) ≡ 8 * r .n =
-      slots-length (st .col-labels) (labels-short (st .col-labels) (e .held .cols-stand)) ∙ omega arith in
-      read table (all-clear s m w few) g (ap gives n)
-      (ap (λ x. lent x r′ c′) (p ∙ copied (table .entries) kept-table (m .table) (r .n * r .n) sq tf)
-      ∙ ap (λ x. lent (over (table .entries) (m .table)) x c′)
-      (q ∙ copied (slots (st .row-labels)) kept-rows (m .row-labels) (8 * r .n) rl rf)
-      ∙ ap (λ x. lent (over (table .entries) (m .table)) (over (slots (st .row-labels)) (m .row-labels)) x)
-      (u ∙ copied (slots (st .col-labels)) kept-cols (m .col-labels) (8 * r .n) cl cf))
+      copied (tableOf st .entries) t (m .table) (n * n) sq
+      (ap (λ x. take (n * n) x) (e .held .table-held)
+      ∙ table-front (st .entries) (n * n) fit (places-few e)
+      ∙ ap (λ x. st .entries ++ replicate (x * x - length (st .entries)) absent) (sym (e .rows-are)))
+
+  pub read-good : Wanted m → length s ≤ sheet → (t′ : List ℤ) (a′ b′ : List ℕ)
+      → t′ ≡ take (n * n) t ++ drop (n * n) (m .table)
+      → a′ ≡ take (width * n) a ++ drop (width * n) (m .row-labels)
+      → b′ ≡ take (width * n) b ++ drop (width * n) (m .col-labels) → ReadPromise s m (lent t′ a′ b′) (gives n)
+  read-good w few t′ a′ b′ p q u =
+      let st = e .st in
+      let h = e .held in
+      let x : t′ ≡ over (tableOf st .entries) (m .table) = p ∙ copied-table in
+      let y : a′ ≡ over (slots (st .row-labels)) (m .row-labels) =
+      q ∙ copied-labels a (m .row-labels) (st .row-labels) n (e .rows-are) (h .rows-held) (h .rows-stand) in
+      let z : b′ ≡ over (slots (st .col-labels)) (m .col-labels) =
+      u ∙ copied-labels b (m .col-labels) (st .col-labels) n (e .cols-are) (h .cols-held) (h .cols-stand) in
+      read (tableOf st) (all-clear s m w few) (e .read) (ap gives (sym (e .rows-are))) (λ i. lent (x i) (y i) (z i))

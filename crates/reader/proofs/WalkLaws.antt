@@ -1,345 +1,171 @@
--- The walk over sections and lines: what is known before a heading and before a line, and how one line more changes it. Assumes nothing.
+-- The walk over sections and lines: what is known before a heading and before a line, and what one line more changes. Assumes nothing.
 use mathlib.Core.Path.{_≡_, refl, sym, ap, subst, subst⁻¹, _∙_}
-use mathlib.Core.Logic.{_≢_}
-use mathlib.Core.Bool.{Bool, true, false}
-use mathlib.Core.List.{List, [], _∷_, _++_}
-use Prim.Native.Nat.{ℕ, zero, suc, _+_, _-_, _*_, _<_, _≤_}
+use mathlib.Core.List.{List, []}
+use Prim.Native.Nat.{ℕ, suc, _+_, _-_, _*_, _<_, _≤_}
 use native.Mathlib.Omega.{arith}
 use native.Mathlib.Nat.{mul-le-mul}
 use native.Mathlib.Numerals.{add-one}
-use native.Mathlib.Decide.{ℕ-discrete}
 use lib.IntN.{ℤ}
-use lib.ListN.{length, take, drop, replicate, length-append, length-drop, length-replicate}
-use lib.Seq.{split-at, drop-drop, getD-take, length-take-le}
+use lib.ListN.{length, drop, replicate, length-append, length-replicate, drop-of-length-le}
 use mir.Syntax.{w64}
 use mir.Val.{Fits}
 use Rattle.theory.specs.Limits.{rows}
 use Rattle.theory.specs.Table.{absent}
-use Rattle.sheet.specs.Labels.{slots}
-use Rattle.sheet.specs.Text.{feed}
-use Rattle.sheet.specs.Reading.{State, start, Heading, Ended, After, heading, row-label, col-label, order-line, begun, Final, Outcome, wrong, Reads, short, unfit, next}
-use Rattle.sheet.proofs.Lines.{Unbroken, Cut, unbroken, broken, cut}
-use Rattle.sheet.proofs.Slots.{length-more, labels-none, labels-short}
-use Rattle.fields.specs.Fields.{LineEnd}
-use Rattle.reader.specs.declared.Walked.{Walked}
-use Rattle.reader.specs.Parts.{Store, store, Holds, Due, Within, LineKept, WalkTells}
+use Rattle.sheet.specs.Labels.{width, slots}
+use Rattle.sheet.specs.Reading.{Ended, following, State, start, Heading, After, heading, row-label, col-label, order-line, begun}
+use Rattle.sheet.specs.Reading.{Final, tableOf, Outcome, good, wrong, Reads, done, short, unfit, next, WrongLine}
+use Rattle.sheet.proofs.Lines.{Cut, unbroken, broken, cut, rank}
+use Rattle.sheet.proofs.Slots.{labels-none, labels-short}
+use Rattle.fields.proofs.LineLaws.{behind-line, line-length}
+use Rattle.reader.specs.declared.Section.{Section}
+use Rattle.reader.specs.declared.Section.the-variants.{Rows, Cols, Orders}
+use Rattle.reader.specs.declared.Kept.{Kept}
+use Rattle.reader.specs.declared.Kept.the-variants.{Line, Nothing as NoLine}
+use Rattle.reader.specs.declared.Walked.the-variants.{Rows as Walked·Rows, Wrong}
+use Rattle.reader.specs.Parts.{meant, before, size-after, HeadingIs, Store, store, Holds, row-count, col-count}
+use Rattle.reader.specs.Parts.{InSection, Place-for, Within, FrontKept, Ends, WalkTells}
 use Rattle.reader.proofs.KeepLaws.{holding-length}
 
--- where the walk is: the bytes passed, the number of the next line, and that a reading of the rest is a reading of the whole
-pub record Reached (s : List ℕ) (st : State) (line at : ℕ) : Type 0 where
-  pub inside : at ≤ length s
-  pub line-small : line ≤ at + 1
-  pub line-some : 1 ≤ line
-  pub whole : (o : Outcome) → Reads st line (drop at s) o → Reads start 1 s o
-
--- before the heading that comes after so many sections
-pub record Outer (s : List ℕ) (kept : Store) (n section line at : ℕ) : Type 0 where
-  pub st : State
-  pub held : Holds kept st
-  pub reached : Reached s st line at
-  pub section-is : st .section ≡ section
-  pub none-left : st .left ≡ 0
-  pub rows-are : n ≡ length (st .row-labels)
-  pub few : n ≤ rows
-  pub no-cols : section ≤ 1 → length (st .col-labels) ≡ 0
-  pub cols-are : 2 ≤ section → length (st .col-labels) ≡ length (st .row-labels)
-
--- before line k of c in a section, both counted from 0
-pub record Inner (s : List ℕ) (kept : Store) (n section line at c k : ℕ) : Type 0 where
-  pub st : State
-  pub held : Holds kept st
-  pub reached : Reached s st line at
-  pub section-is : st .section ≡ suc section
-  pub left-is : st .left + k ≡ c
-  pub few : n ≤ rows
-  pub in-rows : section ≡ 0 → (length (st .row-labels) ≡ k) × (n ≡ c) × (length (st .col-labels) ≡ 0)
-  pub later : 1 ≤ section → n ≡ length (st .row-labels)
-  pub in-cols : section ≡ 1 → (length (st .col-labels) ≡ k) × (c ≡ n)
-  pub in-orders : section ≡ 2 → length (st .col-labels) ≡ length (st .row-labels)
-  pub small : section < 2 → c ≤ rows
-
--- the line from at on, where its line feed is e bytes further
-module _ (s : List ℕ) (at e : ℕ) (inside : at ≤ length s) (l : LineEnd (drop at s) e) where
-  module _ (more : at + e ≢ length s) where
-    pub feed-inside : at + e < length s
-    feed-inside = omega (arith, l .inside, length-drop at s)
-
-    pub line-found : Ended (drop at s) (take (at + e - at) (drop at s)) (drop (at + e + 1) s)
-    line-found =
-        let d : at + e - at ≡ e = omega arith in
-        let h : e < length (drop at s) = omega (arith, length-drop at s, feed-inside) in
-        let g : at + suc e ≡ at + e + 1 = omega arith in
-        record {
-          parts =
-              split-at (drop at s) e 0 h
-              ∙ ap (λ x. take e (drop at s) ++ x ∷ drop (suc e) (drop at s)) (l .here h)
-              ∙ ap (λ x. take e (drop at s) ++ feed ∷ x) (drop-drop (suc e) at s ∙ ap (λ x. drop x s) g)
-              ∙ ap (λ x. take x (drop at s) ++ feed ∷ drop (at + e + 1) s) (sym d);
-          whole = λ k q.
-              let w : length (take (at + e - at) (drop at s)) ≡ e = ap (λ x. length (take x (drop at s))) d ∙ length-take-le e (drop at s) (omega arith) in
-              rw (d, getD-take e (drop at s) k 0 (omega arith)) (l .before k (omega arith));
-        }
-
-  pub feed-none : at + e ≡ length s → Unbroken (drop at s)
-  feed-none z k h = l .before k (omega (arith, length-drop at s))
+-- ---- one line after the other
+-- The lines passed said st, and what is left of the sheet begins with line `line`: a reading of it from there is a reading of the whole.
+-- There are no more lines than bytes.
+pub record Reached (s : List ℕ) (st : State) (line : ℕ) (rest : List ℕ) : Type 0 where
+  pub whole : (o : Outcome) → Reads st line rest o → Reads start 1 s o
+  pub few-lines : line + length rest ≤ length s + 1
 
 -- one line more is passed
-pub pass : (s : List ℕ) (st st′ : State) (line at e : ℕ) → Reached s st line at → (l : LineEnd (drop at s) e) → (more : at + e ≢ length s)
-    → After st (take (at + e - at) (drop at s)) st′ → Reached s st′ (line + 1) (at + e + 1)
-pass s st st′ line at e r l more a =
+pub pass : (s : List ℕ) (st st′ : State) (line taken : ℕ) (rest l : List ℕ) → Reached s st line rest → Ended rest l (drop taken rest) → After st l st′
+    → Reached s st′ (line + 1) (drop taken rest)
+pass s st st′ line taken rest l r e a =
     record {
-      inside = omega (arith, feed-inside s at e (r .inside) l more);
-      line-small = omega (arith, r .line-small);
-      line-some = omega arith;
-      whole = λ o t.
-          r .whole o
-          (next (take (at + e - at) (drop at s)) (drop (at + e + 1) s) st′ (line-found s at e (r .inside) l more) a
-          (subst (λ x. Reads st′ x (drop (at + e + 1) s) o) (add-one line) t));
+      whole = λ o t. r .whole o (next l (drop taken rest) st′ e a (subst (λ x. Reads st′ x (drop taken rest) o) (add-one line) t));
+      few-lines = omega (arith, r .few-lines, line-length e);
     }
 
--- a line that cannot stand
-pub halt : (s : List ℕ) (st : State) (line at e : ℕ) → Reached s st line at → (l : LineEnd (drop at s) e) → at + e ≢ length s
-    → ((st′ : State) → After st (take (at + e - at) (drop at s)) st′ → ⊥) → Reads start 1 s (wrong line)
-halt s st line at e r l more n =
-    r .whole (wrong line) (unfit (take (at + e - at) (drop at s)) (drop (at + e + 1) s) (line-found s at e (r .inside) l more) n refl)
+-- the next line's number fits
+pub next-line : {s : List ℕ} {st : State} {line : ℕ} {rest l x : List ℕ} → Reached s st line rest → Ended rest l x → Fits w64 (length s + 1)
+    → Fits w64 (line + 1)
+next-line r e f = omega (arith, r .few-lines, line-length e)
 
--- a missing or unended line
-pub lack : (s : List ℕ) (st : State) (line at e : ℕ) → Reached s st line at → (l : LineEnd (drop at s) e) → at + e ≡ length s → (Final st → ⊥)
-    → Reads start 1 s (wrong line)
-lack s st line at e r l z n = r .whole (wrong line) (short (feed-none s at e (r .inside) l z) (λ y f. n f) refl)
+-- the first line left cannot stand, or is missing or unended
+pub halt : (s : List ℕ) (st : State) (line : ℕ) (rest : List ℕ) → Reached s st line rest → (Final st → ⊥)
+    → ((l x : List ℕ) (st′ : State) → Ended rest l x → After st l st′ → ⊥) → WrongLine s line
+halt s st line rest r due none = go (cut rest)
+  where
+    go : Cut rest → WrongLine s line
+    go (unbroken u) = r .whole (wrong line) (short u (λ z f. due f) refl)
+    go (broken l x e) = r .whole (wrong line) (unfit l x e (λ st′ a. none l x st′ e a) refl)
 
--- a line after the last
-pub final-none : (st : State) (l : List ℕ) → Final st → (st′ : State) → After st l st′ → ⊥
+-- after the last line nothing can stand
+final-none : (st : State) (l : List ℕ) → Final st → (st′ : State) → After st l st′ → ⊥
 final-none st l f st′ (heading c z h e) = subst (λ x. Heading x (length (st .row-labels)) c l) (f .last) h
 final-none st l f st′ (row-label m s z g h e) = omega (arith, f .none-left)
 final-none st l f st′ (col-label m s z g h e) = omega (arith, f .none-left)
 final-none st l f st′ (order-line m i j v s z p q o r u e) = omega (arith, f .none-left)
 
-surplus-by : (st : State) (k : ℕ) (s : List ℕ) → Final st → (s ≡ [] → ⊥) → Cut s → Reads st k s (wrong k)
-surplus-by st k s f n (unbroken u) = short u (λ z g. n z) refl
-surplus-by st k s f n (broken l x e) = unfit l x e (λ st′ a. final-none st l f st′ a) refl
+surplus : (st : State) (k : ℕ) (s : List ℕ) → Final st → (s ≡ [] → ⊥) → Cut s → Reads st k s (wrong k)
+surplus st k s f some (unbroken u) = short u (λ z g. some z) refl
+surplus st k s f some (broken l x e) = unfit l x e (λ st′ a. final-none st l f st′ a) refl
 
-pub surplus : (st : State) (k : ℕ) (s : List ℕ) → Final st → 0 < length s → Reads st k s (wrong k)
-surplus st k s f h = surplus-by st k s f (λ z. omega (arith, ap length z)) (cut s)
+-- ---- sections, case by case
+-- how many sections come after
+abbrev pub sections-left : Section → ℕ
+sections-left Rows = 2
+sections-left Cols = 1
+sections-left Orders = 0
 
--- where a heading is due, only a heading can stand
-pub headings-only : (st st′ : State) (l : List ℕ) → st .left ≡ 0 → After st l st′ → (c : ℕ) × Heading (st .section) (length (st .row-labels)) c l
-headings-only st st′ l z (heading c y h e) = (c, h)
-headings-only st st′ l z (row-label m s y g h e) = absurd (omega arith)
-headings-only st st′ l z (col-label m s y g h e) = absurd (omega arith)
-headings-only st st′ l z (order-line m i j v s y p q o r u e) = absurd (omega arith)
+-- a section of labels has N lines
+abbrev Sized : Section → ℕ → ℕ → Type 0
+Sized Rows n c = c ≡ n
+Sized Cols n c = c ≡ n
+Sized Orders n c = Unit
 
--- what a heading's count is within
-heading-small : (section n c : ℕ) (l : List ℕ) → Heading section n c l → n ≤ rows → section < 2 → c ≤ rows
-heading-small zero n c l h f g = h .1
-heading-small (suc zero) n c l h f g = omega (arith, h .0)
-heading-small (suc (suc s)) n c l h f g = absurd (omega arith)
+follows : (section : Section) → following (before section) ≡ meant section
+follows Rows = refl
+follows Cols = refl
+follows Orders = refl
 
-heading-same : (section n c : ℕ) (l : List ℕ) → Heading section n c l → section ≡ 1 → c ≡ n
-heading-same zero n c l h e = absurd (omega arith)
-heading-same (suc zero) n c l h e = h .0
-heading-same (suc (suc s)) n c l h e = absurd (omega arith)
+before-last : (section : Section) → rank (before section) < 3
+before-last Rows = omega arith
+before-last Cols = omega arith
+before-last Orders = omega arith
 
-module _ (s : List ℕ) (kept : Store) (n section line at : ℕ) (u : Outer s kept n section line at) where
-  -- no heading: missing, or not fit
-  pub outer-lack : (e : ℕ) → section < 3 → LineEnd (drop at s) e → at + e ≡ length s → Reads start 1 s (wrong line)
-  outer-lack e g l z = lack s (u .st) line at e (u .reached) l z (λ f. omega (arith, f .last, u .section-is))
+-- a heading leaves the labels as they are
+module _ (n c : ℕ) where
+  rows-stay : (section : Section) → row-count section n 0 ≡ row-count section (size-after section n c) 0
+  rows-stay Rows = refl
+  rows-stay Cols = refl
+  rows-stay Orders = refl
 
-  pub outer-halt : (e : ℕ) → LineEnd (drop at s) e → at + e ≢ length s → ((c : ℕ) → Heading section n c (take (at + e - at) (drop at s)) → ⊥)
-      → Reads start 1 s (wrong line)
-  outer-halt e l more h =
-      halt s (u .st) line at e (u .reached) l more
-      (λ st′ a.
-      let r = headings-only (u .st) st′ (take (at + e - at) (drop at s)) (u .none-left) a in
-      h (r .0)
-      (subst (λ x. Heading x n (r .0) (take (at + e - at) (drop at s))) (u .section-is)
-      (subst⁻¹ (λ x. Heading (u .st .section) x (r .0) (take (at + e - at) (drop at s))) (u .rows-are) (r .1))))
+  cols-stay : (section : Section) → col-count section n 0 ≡ col-count section (size-after section n c) 0
+  cols-stay Rows = refl
+  cols-stay Cols = refl
+  cols-stay Orders = refl
 
-  -- a heading, and then no line of its section yet
-  pub outer-pass : (e c n′ : ℕ) → LineEnd (drop at s) e → at + e ≢ length s → Heading section n c (take (at + e - at) (drop at s))
-      → (section ≡ 0 → n′ ≡ c) → (section ≢ 0 → n′ ≡ n) → section < 3 → (section ≡ 0 → n ≡ 0) → Inner s kept n′ section (line + 1) (at + e + 1) c 0
-  outer-pass e c n′ l more h first other three zero′ =
-      let t = take (at + e - at) (drop at s) in
-      let st = u .st in
-      let g : Heading (st .section) (length (st .row-labels)) c t =
-      subst⁻¹ (λ x. Heading x (length (st .row-labels)) c t) (u .section-is) (subst (λ x. Heading section x c t) (u .rows-are) h) in
-      record {
-        st = begun st c;
-        held =
-            record {
-              rows-held = u .held .rows-held;
-              cols-held = u .held .cols-held;
-              rows-stand = u .held .rows-stand;
-              cols-stand = u .held .cols-stand;
-              table-held = u .held .table-held;
-              next-held = u .held .next-held;
-              few = u .held .few;
-            };
-        reached = pass s st (begun st c) line at e (u .reached) l more (heading c (u .none-left) g refl);
-        section-is = ap suc (u .section-is);
-        left-is = omega arith;
-        few =
-            elim (ℕ-discrete section 0) [
-              | yes z ↦ omega (arith, first z, heading-small section n c t h (u .few) (omega arith))
-              | no nz ↦ omega (arith, other nz, u .few)
-            ];
-        in-rows = λ z. (omega (arith, u .rows-are, zero′ z), first z, u .no-cols (omega arith));
-        later = λ z. other (λ y. omega arith) ∙ u .rows-are;
-        in-cols = λ z. (u .no-cols (omega arith), heading-same section n c t h z ∙ sym (other (λ y. omega arith)));
-        in-orders = λ z. u .cols-are (omega arith);
-        small = λ z. heading-small section n c t h (u .few) z;
-      }
+-- what a heading says of N, and of the section's lines
+module _ (n c : ℕ) (l : List ℕ) where
+  heading-few : (section : Section) → Heading (before section) n c l → n ≤ rows → size-after section n c ≤ rows
+  heading-few Rows h few = h .1
+  heading-few Cols h few = few
+  heading-few Orders h few = few
 
-  -- after the last section the sheet may end
-  pub outer-final : section ≡ 3 → Final (u .st)
-  outer-final z = record { last = u .section-is ∙ z; none-left = u .none-left }
+  heading-sized : (section : Section) → Heading (before section) n c l → Sized section (size-after section n c) c
+  heading-sized Rows h = refl
+  heading-sized Cols h = h .0
+  heading-sized Orders h = tt
 
-module _ (s : List ℕ) (kept : Store) (n section line at c k : ℕ) (u : Inner s kept n section line at c k) (due : k < c) where
-  pub inner-left : u .st .left ≡ suc (c - (k + 1))
-  inner-left = omega (arith, u .left-is)
+  -- the definitions speak of the labels of rows kept, the code of N; before the first heading neither counts
+  heading-kept : (section : Section) (m : ℕ) → m ≡ row-count section n 0 → Heading (before section) n c l → Heading (before section) m c l
+  heading-kept Rows m e h = h
+  heading-kept Cols m e h = subst⁻¹ (λ x. Heading (before Cols) x c l) e h
+  heading-kept Orders m e h = subst⁻¹ (λ x. Heading (before Orders) x c l) e h
 
-  pub inner-due : Due section n k (c - (k + 1)) (u .st)
-  inner-due =
-      record {
-        section-is = u .section-is;
-        left-is = inner-left;
-        in-rows = λ z. u .in-rows z .0;
-        in-cols = λ z. u .in-cols z .0;
-        in-orders = λ z. sym (u .later (omega arith));
-      }
+  heading-said : (section : Section) (m : ℕ) → m ≡ row-count section n 0 → Heading (before section) m c l → Heading (before section) n c l
+  heading-said Rows m e h = h
+  heading-said Cols m e h = subst (λ x. Heading (before Cols) x c l) e h
+  heading-said Orders m e h = subst (λ x. Heading (before Orders) x c l) e h
 
-  -- no more labels are kept than there are rows
-  rows-small : section < 3 → length (u .st .row-labels) ≤ rows
-  rows-small three =
-      elim (ℕ-discrete section 0) [
-        | yes z ↦ omega (arith, u .in-rows z .0, u .small (omega arith))
-        | no nz ↦ omega (arith, u .later (omega arith), u .few)
-      ]
+-- no more labels are kept than there are rows
+module _ (n c k : ℕ) (few : n ≤ rows) (inside : k ≤ c) where
+  rows-small : (section : Section) → Sized section n c → row-count section n k ≤ rows
+  rows-small Rows z = omega arith
+  rows-small Cols z = few
+  rows-small Orders z = few
 
-  cols-small : section < 3 → length (u .st .col-labels) ≤ rows
-  cols-small three =
-      elim (ℕ-discrete section 0) [
-        | yes z ↦ omega (arith, u .in-rows z .2)
-        | no nz ↦ elim (ℕ-discrete section 1) [
-          | yes z ↦ omega (arith, u .in-cols z .0, u .small (omega arith))
-          | no nz′ ↦ omega (arith, u .in-orders (omega arith), rows-small three)
-        ]
-      ]
+  cols-small : (section : Section) → Sized section n c → col-count section n k ≤ rows
+  cols-small Rows z = omega arith
+  cols-small Cols z = omega arith
+  cols-small Orders z = few
 
-  pub inner-within : section < 3 → Within section n k (kept .row-bytes) (kept .col-bytes)
-  inner-within three =
-      let st = u .st in
-      let h = u .held in
-      record {
-        three = three;
-        few = u .few;
-        room = λ z. omega (arith, u .small z);
-        rows-whole = holding-length (kept .row-bytes) (st .row-labels) (h .rows-held) (labels-short (st .row-labels) (h .rows-stand)) (rows-small three);
-        cols-whole = holding-length (kept .col-bytes) (st .col-labels) (h .cols-held) (labels-short (st .col-labels) (h .cols-stand)) (cols-small three);
-      }
+  place-for : (section : Section) → Sized section n c → k < c → Place-for section k
+  place-for Rows z due = omega arith
+  place-for Cols z due = omega arith
+  place-for Orders z due = tt
 
-  pub inner-lack : (e : ℕ) → LineEnd (drop at s) e → at + e ≡ length s → Reads start 1 s (wrong line)
-  inner-lack e l z = lack s (u .st) line at e (u .reached) l z (λ f. omega (arith, f .none-left, inner-left))
+-- ---- before a section's heading
+pub record BeforeHeading (s : List ℕ) (kept : Store) (section : Section) (n line : ℕ) (rest : List ℕ) : Type 0 where
+  pub st : State
+  pub reached : Reached s st line rest
+  pub held : Holds kept st
+  pub section-is : st .section ≡ before section
+  pub none-left : st .left ≡ 0
+  pub rows-are : length (st .row-labels) ≡ row-count section n 0
+  pub cols-are : length (st .col-labels) ≡ col-count section n 0
+  pub few : n ≤ rows
 
-  pub inner-halt : (e : ℕ) (fits : Bool) (r : Store) → LineEnd (drop at s) e → at + e ≢ length s → LineKept (u .st) (take (at + e - at) (drop at s)) fits r
-      → fits ≡ false → Reads start 1 s (wrong line)
-  inner-halt e fits r l more t f = halt s (u .st) line at e (u .reached) l more (t .unfit f)
+-- ---- before line k of c lines of a section, k counted from 0
+pub record BeforeLine (s : List ℕ) (kept : Store) (section : Section) (n line : ℕ) (rest : List ℕ) (c k : ℕ) : Type 0 where
+  pub st : State
+  pub reached : Reached s st line rest
+  pub held : Holds kept st
+  pub left : ℕ
+  pub left-is : left + k ≡ c
+  pub due : InSection section n k left st
+  pub sized : Sized section n c
+  pub few : n ≤ rows
 
-  -- what a line of a section leaves
-  module _ (e : ℕ) (r : Store) (l : LineEnd (drop at s) e) (more : at + e ≢ length s) (three : section < 3) where
-    inner-by : (st′ : State) → Holds r st′ → After (u .st) (take (at + e - at) (drop at s)) st′
-        → After (u .st) (take (at + e - at) (drop at s)) st′ → Inner s r n section (line + 1) (at + e + 1) c (k + 1)
-    inner-by st′ h a (heading d z g f) = absurd (omega (arith, inner-left))
-    inner-by st′ h a (row-label m z y g f x) =
-        let q : section ≡ 0 = omega (arith, u .section-is) in
-        let st = u .st in
-        let t = take (at + e - at) (drop at s) in
-        let le : st′ .left ≡ m = ap (λ v. v .left) x in
-        let ro : length (st′ .row-labels) ≡ length (st .row-labels) + 1 = ap (λ v. length (v .row-labels)) x ∙ length-more (st .row-labels) t in
-        let co : length (st′ .col-labels) ≡ length (st .col-labels) = ap (λ v. length (v .col-labels)) x in
-        record {
-          st = st′;
-          held = h;
-          reached = pass s st st′ line at e (u .reached) l more a;
-          section-is = ap (λ v. v .section) x ∙ omega arith;
-          left-is = omega (arith, u .left-is);
-          few = u .few;
-          in-rows = λ w. (omega (arith, u .in-rows w .0), u .in-rows w .1, omega (arith, u .in-rows w .2));
-          later = λ w. absurd (omega arith);
-          in-cols = λ w. absurd (omega arith);
-          in-orders = λ w. absurd (omega arith);
-          small = u .small;
-        }
-    inner-by st′ h a (col-label m z y g f x) =
-        let q : section ≡ 1 = omega (arith, u .section-is) in
-        let st = u .st in
-        let t = take (at + e - at) (drop at s) in
-        let le : st′ .left ≡ m = ap (λ v. v .left) x in
-        let ro : length (st′ .row-labels) ≡ length (st .row-labels) = ap (λ v. length (v .row-labels)) x in
-        let co : length (st′ .col-labels) ≡ length (st .col-labels) + 1 = ap (λ v. length (v .col-labels)) x ∙ length-more (st .col-labels) t in
-        record {
-          st = st′;
-          held = h;
-          reached = pass s st st′ line at e (u .reached) l more a;
-          section-is = ap (λ v. v .section) x ∙ omega arith;
-          left-is = omega (arith, u .left-is);
-          few = u .few;
-          in-rows = λ w. absurd (omega arith);
-          later = λ w. omega (arith, u .later w);
-          in-cols = λ w. (omega (arith, u .in-cols w .0), u .in-cols w .1);
-          in-orders = λ w. absurd (omega arith);
-          small = u .small;
-        }
-    inner-by st′ h a (order-line m i j v z y p q o d f x) =
-        let w : section ≡ 2 = omega (arith, u .section-is) in
-        let st = u .st in
-        let le : st′ .left ≡ m = ap (λ v. v .left) x in
-        let ro : length (st′ .row-labels) ≡ length (st .row-labels) = ap (λ v. length (v .row-labels)) x in
-        let co : length (st′ .col-labels) ≡ length (st .col-labels) = ap (λ v. length (v .col-labels)) x in
-        record {
-          st = st′;
-          held = h;
-          reached = pass s st st′ line at e (u .reached) l more a;
-          section-is = ap (λ v. v .section) x ∙ omega arith;
-          left-is = omega (arith, u .left-is);
-          few = u .few;
-          in-rows = λ b. absurd (omega arith);
-          later = λ b. omega (arith, u .later b);
-          in-cols = λ b. absurd (omega arith);
-          in-orders = λ b. omega (arith, u .in-orders b);
-          small = λ b. absurd (omega arith);
-        }
-
-    pub inner-pass : (fits : Bool) → LineKept (u .st) (take (at + e - at) (drop at s)) fits r → fits ≡ true
-        → Inner s r n section (line + 1) (at + e + 1) c (k + 1)
-    inner-pass fits t f = let g = t .fit f in inner-by (g .0) (g .2) (g .1) (g .1)
-
--- after the last line of a section the next heading is due
-pub inner-last : (s : List ℕ) (kept : Store) (n section line at c k : ℕ) → Inner s kept n section line at c k → c ≤ k → k ≤ c → section < 3
-    → Outer s kept n (section + 1) line at
-inner-last s kept n section line at c k u p q three =
-    record {
-      st = u .st;
-      held = u .held;
-      reached = u .reached;
-      section-is = u .section-is ∙ sym (add-one section);
-      none-left = omega (arith, u .left-is);
-      rows-are =
-          elim (ℕ-discrete section 0) [
-            | yes z ↦ omega (arith, u .in-rows z .0, u .in-rows z .1)
-            | no nz ↦ u .later (omega arith)
-          ];
-      few = u .few;
-      no-cols = λ g. u .in-rows (omega arith) .2;
-      cols-are = λ g.
-          elim (ℕ-discrete section 1) [
-            | yes z ↦ omega (arith, u .in-cols z .0, u .in-cols z .1, u .later (omega arith))
-            | no nz ↦ u .in-orders (omega arith)
-          ];
-    }
-
--- the walk's first state: nothing said, nothing kept
-pub holds-nothing : Holds (store (replicate 1024 absent) (replicate 256 0) (replicate 256 0) 0) start
+-- before the first heading nothing is said and nothing kept
+pub holds-nothing : Holds (store (replicate (rows * rows) absent) (replicate (width * rows) 0) (replicate (width * rows) 0) 0) start
 unfolding slots
 holds-nothing =
     record {
@@ -352,73 +178,199 @@ holds-nothing =
       few = omega arith;
     }
 
-pub outer-start : (s : List ℕ) (kept : Store) → Holds kept start → Outer s kept 0 0 1 0
-outer-start s kept h =
+pub walk-start : (s : List ℕ) (kept : Store) → Holds kept start → BeforeHeading s kept Rows 0 1 s
+walk-start s kept h =
     record {
       st = start;
+      reached = record { whole = λ o t. t; few-lines = omega arith };
       held = h;
-      reached = record { inside = omega arith; line-small = omega arith; line-some = omega arith; whole = λ o t. t };
       section-is = refl;
       none-left = refl;
       rows-are = refl;
+      cols-are = refl;
       few = omega arith;
-      no-cols = λ z. refl;
-      cols-are = λ z. absurd (omega arith);
     }
 
--- what the walk tells at each of its ends
-pub walk-stopped : (s : List ℕ) (r : Walked) (t : List ℤ) (b c : List ℕ) → 1 ≤ r .wrong → Reads start 1 s (wrong (r .wrong)) → WalkTells s r t b c
-walk-stopped s r t b c h p = record { stopped = λ n. p; ended = λ z. absurd (omega arith) }
+-- where a heading is due: it does not stand at the front of the rest, or it does
+module _ {s : List ℕ} {kept : Store} {section : Section} {n line : ℕ} {rest : List ℕ} (u : BeforeHeading s kept section n line rest) where
+  pub heading-wrong : ((c k : ℕ) → HeadingIs section n rest c k → ⊥) → WrongLine s line
+  heading-wrong none =
+      halt s (u .st) line rest (u .reached)
+      (λ f. omega (arith, before-last section, ap rank (sym (u .section-is) ∙ f .last))) (λ l x st′ e a. go l x e a)
+    where
+      go : (l x : List ℕ) {st′ : State} → Ended rest l x → After (u .st) l st′ → ⊥
+      go l x e (heading c z h f) =
+          none c (length l + 1)
+          (record {
+            line = l;
+            is = heading-said n c l section (length (u .st .row-labels)) (u .rows-are)
+                (subst (λ y. Heading y (length (u .st .row-labels)) c l) (u .section-is) h);
+            ended = subst (λ y. Ended rest l y) (behind-line e) e;
+            inside = omega (arith, line-length e);
+          })
+      go l x e (row-label m z y f g h) = omega (arith, u .none-left)
+      go l x e (col-label m z y f g h) = omega (arith, u .none-left)
+      go l x e (order-line m i j v z y p q o r f g) = omega (arith, u .none-left)
 
-pub walk-ended : (s : List ℕ) (t : List ℤ) (b c : List ℕ) (first n section line at w : ℕ) → w ≡ 0 → section ≡ 3
-    → Outer s (store t b c first) n section line at → WalkTells s (record { wrong = w; n = n; at = at; line = line }) t b c
-walk-ended s t b c first n section line at w z three u =
-    record {
-      stopped = λ n. absurd (n z);
-      ended = λ y. (
-        u .st,
+  pub heading-passed : (c k : ℕ) → HeadingIs section n rest c k → BeforeLine s kept section (size-after section n c) (line + 1) (drop k rest) c 0
+  heading-passed c k h =
+      let st = u .st in
+      let is : Heading (st .section) (length (st .row-labels)) c (h .line) =
+      subst⁻¹ (λ y. Heading y (length (st .row-labels)) c (h .line)) (u .section-is)
+      (heading-kept n c (h .line) section (length (st .row-labels)) (u .rows-are) (h .is)) in
+      record {
+        st = begun st c;
+        reached = pass s st (begun st c) line k rest (h .line) (u .reached) (h .ended) (heading c (u .none-left) is refl);
+        held =
+            record {
+              rows-held = u .held .rows-held;
+              cols-held = u .held .cols-held;
+              rows-stand = u .held .rows-stand;
+              cols-stand = u .held .cols-stand;
+              table-held = u .held .table-held;
+              next-held = u .held .next-held;
+              few = u .held .few;
+            };
+        left = c;
+        left-is = omega arith;
+        due =
+            record {
+              section-is = ap following (u .section-is) ∙ follows section;
+              left-is = refl;
+              rows-are = u .rows-are ∙ rows-stay n c section;
+              cols-are = u .cols-are ∙ cols-stay n c section;
+            };
+        sized = heading-sized n c (h .line) section (h .is);
+        few = heading-few n c (h .line) section (h .is) (u .few);
+      }
+
+-- where a line of a section is due: what `keep` wants to know; it is wrong, or it is kept
+module _ {s : List ℕ} {kept : Store} {section : Section} {n line : ℕ} {rest : List ℕ} {c k : ℕ} (u : BeforeLine s kept section n line rest c k)
+    (more : k < c) where
+  pub line-within : Within section n k (kept .row-bytes) (kept .col-bytes)
+  line-within =
+      let st = u .st in
+      let h = u .held in
+      record {
+        few = u .few;
+        room = place-for n c k (u .few) (omega arith) section (u .sized) more;
+        rows-whole =
+            holding-length (kept .row-bytes) (st .row-labels) (h .rows-held) (labels-short (st .row-labels) (h .rows-stand))
+            (omega (arith, u .due .rows-are, rows-small n c k (u .few) (omega arith) section (u .sized)));
+        cols-whole =
+            holding-length (kept .col-bytes) (st .col-labels) (h .cols-held) (labels-short (st .col-labels) (h .cols-stand))
+            (omega (arith, u .due .cols-are, cols-small n c k (u .few) (omega arith) section (u .sized)));
+      }
+
+  pub line-due : InSection section n k (suc (c - (k + 1))) (u .st)
+  line-due =
+      let d = u .due in
+      record {
+        section-is = d .section-is;
+        left-is = omega (arith, d .left-is, u .left-is);
+        rows-are = d .rows-are;
+        cols-are = d .cols-are;
+      }
+
+  module _ {r : Kept} {t : List ℤ} {a b : List ℕ} (told : FrontKept section n (k + 1) (c - (k + 1)) (u .st) rest r t a b) where
+    pub line-wrong : r ≡ NoLine → WrongLine s line
+    line-wrong e =
+        halt s (u .st) line rest (u .reached) (λ f. omega (arith, f .none-left, u .due .left-is, u .left-is)) (told .unfit e)
+
+    pub line-passed : (nx taken : ℕ) → r ≡ Line nx taken → BeforeLine s (store t a b nx) section n (line + 1) (drop taken rest) c (k + 1)
+    line-passed nx taken e =
+        let g = told .fit nx taken e in
         record {
-          final = outer-final s (store t b c first) n section line at u three;
-          next = first;
-          held = u .held;
-          rows-are = u .rows-are;
-          rows-few = u .few;
-          cols-are = u .cols-are (omega arith);
-          inside = u .reached .inside;
-          line-small = u .reached .line-small;
-          line-some = u .reached .line-some;
-          whole = u .reached .whole;
-        },
-      );
-    }
+          st = g .0;
+          reached = pass s (u .st) (g .0) line taken rest (g .1 .line) (u .reached) (g .1 .ended) (g .1 .stands);
+          held = g .3;
+          left = c - (k + 1);
+          left-is = omega arith;
+          due = g .2;
+          sized = u .sized;
+          few = u .few;
+        }
 
--- what is kept at the walk's end is whole and within the limits
-module _ {s : List ℕ} {r : Walked} {t : List ℤ} {b c : List ℕ} (told : WalkTells s r t b c) (z : r .wrong ≡ 0) where
-  pub rows-few : r .n ≤ 32
-  rows-few = told .ended z .1 .rows-few
+-- after the last line of a section the next heading is due; after the last section the sheet must end
+module _ {s : List ℕ} {kept : Store} {section : Section} {n line : ℕ} {rest : List ℕ} {c k : ℕ} (u : BeforeLine s kept section n line rest c k)
+    (last : c ≤ k) where
+  section-done : (to : Section) → meant section ≡ before to → row-count section n k ≡ row-count to n 0 → col-count section n k ≡ col-count to n 0
+      → BeforeHeading s kept to n line rest
+  section-done to e p q =
+      record {
+        st = u .st;
+        reached = u .reached;
+        held = u .held;
+        section-is = u .due .section-is ∙ e;
+        none-left = omega (arith, u .due .left-is, u .left-is);
+        rows-are = u .due .rows-are ∙ p;
+        cols-are = u .due .cols-are ∙ q;
+        few = u .few;
+      }
 
-  pub places-few : r .n * r .n ≤ 1024
-  places-few = mul-le-mul {n₁ = r .n} {m₁ = r .n} {n₂ = 32} {m₂ = 32} rows-few rows-few
+  pub rows-done : section ≡ Rows → BeforeHeading s kept Cols n line rest
+  rows-done e =
+      let z : c ≡ n = subst (λ x. Sized x n c) e (u .sized) in
+      section-done Cols (ap meant e) (ap (λ x. row-count x n k) e ∙ omega (arith, u .left-is)) (ap (λ x. col-count x n k) e)
 
-  pub table-whole : length t ≡ 1024
+  pub cols-done : section ≡ Cols → BeforeHeading s kept Orders n line rest
+  cols-done e =
+      let z : c ≡ n = subst (λ x. Sized x n c) e (u .sized) in
+      section-done Orders (ap meant e) (ap (λ x. row-count x n k) e) (ap (λ x. col-count x n k) e ∙ omega (arith, u .left-is))
+
+  module _ (e : section ≡ Orders) where
+    final : Final (u .st)
+    final = record { last = u .due .section-is ∙ ap meant e; none-left = omega (arith, u .due .left-is, u .left-is) }
+
+    pub sheet-ends : length rest ≡ 0 → (t : List ℤ) (a b : List ℕ) (nx : ℕ) → kept ≡ store t a b nx → Ends s n t a b
+    sheet-ends z t a b nx f =
+        record {
+          st = u .st;
+          next = nx;
+          read = u .reached .whole (good (tableOf (u .st))) (done (drop-of-length-le rest {i = 0} (omega arith)) final refl);
+          held = subst (λ x. Holds x (u .st)) f (u .held);
+          rows-are = u .due .rows-are ∙ ap (λ x. row-count x n k) e;
+          cols-are = u .due .cols-are ∙ ap (λ x. col-count x n k) e;
+          few = u .few;
+        }
+
+    pub sheet-goes-on : (length rest ≡ 0 → ⊥) → WrongLine s line
+    sheet-goes-on some = u .reached .whole (wrong line) (surplus (u .st) line rest final (λ z. some (ap length z)) (cut rest))
+
+-- ---- what the walk tells at each of its ends
+module _ {s : List ℕ} {t : List ℤ} {a b : List ℕ} where
+  pub walk-wrong : {line : ℕ} → WrongLine s line → WalkTells s (Wrong line) t a b
+  walk-wrong {line} w =
+      record {
+        ended = λ n e. absurd (let z : _≡_ {A = ℕ} 0 1 = cc in omega arith);
+        stopped = λ k e. let f : line ≡ k = cc in subst (λ x. WrongLine s x) f w;
+      }
+
+  pub walk-good : {n : ℕ} → Ends s n t a b → WalkTells s (Walked·Rows n) t a b
+  walk-good {n} w =
+      record {
+        ended = λ m e. let f : n ≡ m = cc in subst (λ x. Ends s x t a b) f w;
+        stopped = λ k e. absurd (let z : _≡_ {A = ℕ} 0 1 = cc in omega arith);
+      }
+
+-- what is kept of a good sheet is whole
+module _ {s : List ℕ} {n : ℕ} {t : List ℤ} {a b : List ℕ} (e : Ends s n t a b) where
+  pub places-few : n * n ≤ rows * rows
+  places-few = mul-le-mul {n₁ = n} {m₁ = n} {n₂ = rows} {m₂ = rows} (e .few) (e .few)
+
+  pub table-whole : length t ≡ rows * rows
   table-whole =
-      let st = told .ended z .0 in
-      let h = told .ended z .1 .held in
-      ap length (h .table-held)
-      ∙ length-append (st .entries) (replicate (1024 - length (st .entries)) absent)
-      ∙ omega (arith, h .few, length-replicate {A = ℤ} (1024 - length (st .entries)) absent)
+      let st = e .st in
+      ap length (e .held .table-held)
+      ∙ length-append (st .entries) (replicate (rows * rows - length (st .entries)) absent)
+      ∙ omega (arith, e .held .few, length-replicate {A = ℤ} (rows * rows - length (st .entries)) absent)
 
-  pub labels-whole : (length b ≡ 256) × (length c ≡ 256)
-  labels-whole =
-      let e = told .ended z .1 in
-      let h = e .held in (
-        holding-length b _ (h .rows-held) (labels-short _ (h .rows-stand)) (omega (arith, e .rows-are, e .rows-few)),
-        holding-length c _ (h .cols-held) (labels-short _ (h .cols-stand)) (omega (arith, e .rows-are, e .rows-few, e .cols-are)),
-      )
+  pub rows-whole : length a ≡ width * rows
+  rows-whole =
+      holding-length a (e .st .row-labels) (e .held .rows-held) (labels-short (e .st .row-labels) (e .held .rows-stand))
+      (omega (arith, e .rows-are, e .few))
 
-pub next-fits : (s : List ℕ) (x : ℕ) → x < length s → Fits w64 (length s + 1) → Fits w64 (x + 1)
-next-fits s x h f = omega arith
-
--- the next line's number fits, since there are no more lines than bytes
-pub next-line : {s : List ℕ} {st : State} {line at : ℕ} (e : ℕ) → Reached s st line at → at + e < length s → Fits w64 (length s + 1) → Fits w64 (line + 1)
-next-line e r h f = omega (arith, r .line-small)
+  pub cols-whole : length b ≡ width * rows
+  cols-whole =
+      holding-length b (e .st .col-labels) (e .held .cols-held) (labels-short (e .st .col-labels) (e .held .cols-stand))
+      (omega (arith, e .cols-are, e .few))

@@ -1,39 +1,66 @@
--- What the functions inside the reader tell each other about a line. Each case of an answer says what the text is, and the case
--- `Nothing` that it is no such text at all.
+-- What the functions inside the reader tell each other. Where an answer can be `Nothing`, that says that there is no such thing at all.
 use mathlib.Core.Path.{_≡_}
-use mathlib.Core.Logic.{_≢_}
 use mathlib.Core.Bool.{Bool, true, false}
 use mathlib.Core.List.{List, [], _∷_, _++_}
 use Prim.Native.Nat.{ℕ, suc, _+_, _-_, _*_, _≤_, _<_}
 use lib.IntN.{ℤ}
-use lib.ListN.{length, getD, drop, replicate}
+use lib.ListN.{length, drop, replicate}
 use Rattle.theory.specs.Limits.{rows, order}
 use Rattle.theory.specs.Table.{absent, Order}
 use Rattle.sheet.specs.Labels.{width, Form, New, Labels, slots}
 use Rattle.sheet.specs.Sheet.{orderText}
-use Rattle.sheet.specs.Reading.{State, start, Heading, After, Final, Outcome, wrong, Reads}
-use Rattle.fields.specs.declared.Unsigned.{Unsigned}
-use Rattle.fields.specs.Fields.{UnsignedOf}
+use Rattle.sheet.specs.Reading as sheets
+use Rattle.sheet.specs.Reading.{Ended, opening, of-rows, of-cols, of-orders, State, start, Heading, After, tableOf, good, Reads, WrongLine}
 use Rattle.reader.specs.declared.Place.{Place}
 use Rattle.reader.specs.declared.Place.the-variants.{At, Nothing as NoPlace}
+use Rattle.reader.specs.declared.Section.{Section}
+use Rattle.reader.specs.declared.Section.the-variants.{Rows, Cols, Orders}
+use Rattle.reader.specs.declared.Fit.{Fit}
+use Rattle.reader.specs.declared.Fit.the-variants.{Next, Nothing as NoFit}
+use Rattle.reader.specs.declared.Kept.{Kept}
+use Rattle.reader.specs.declared.Kept.the-variants.{Line, Nothing as NoLine}
 use Rattle.reader.specs.declared.Walked.{Walked}
+use Rattle.reader.specs.declared.Walked.the-variants.{Rows as Walked·Rows, Wrong}
 
--- the order line that l is
+-- ---- order lines
+-- the line l is the order v in row i and column j
 pub record OrderIs (n : ℕ) (l : List ℕ) (i j : ℕ) (v : ℤ) : Type 0 where
   pub row : i < n
   pub col : j < n
   pub order-stands : Order order v
   pub is : l ≡ orderText i j v
 
--- the order line that was found has P; or none has
+-- what was found has P; or nothing has
 pub record PlaceOf (P : ℕ → ℕ → ℤ → Type 0) (r : Place) : Type 0 where
   pub found : (i j : ℕ) (v : ℤ) → r ≡ At i j v → P i j v
   pub none : r ≡ NoPlace → (i j : ℕ) (v : ℤ) → P i j v → ⊥
 
--- the count of a section's heading
-abbrev pub HeadingOf : List ℕ → ℕ → ℕ → Unsigned → Type 0
-HeadingOf l section n r = UnsignedOf (λ c. Heading section n c l) r
+-- ---- sections
+-- the section that is meant, and the one before it
+abbrev pub meant : Section → sheets.Section
+meant Rows = of-rows
+meant Cols = of-cols
+meant Orders = of-orders
 
+abbrev pub before : Section → sheets.Section
+before Rows = opening
+before Cols = of-rows
+before Orders = of-cols
+
+-- N after a section's heading, which was n before it and has the count c: "`rows N`"
+abbrev pub size-after : Section → ℕ → ℕ → ℕ
+size-after Rows n c = c
+size-after Cols n c = n
+size-after Orders n c = n
+
+-- s begins with a section's heading, which has the count c and takes so many bytes, its line feed among them
+pub record HeadingIs (section : Section) (n : ℕ) (s : List ℕ) (c taken : ℕ) : Type 0 where
+  pub line : List ℕ
+  pub is : Heading (before section) n c line
+  pub ended : Ended s line (drop taken s)
+  pub inside : taken ≤ length s
+
+-- ---- what is kept
 -- a label buffer of the reader holds these labels, and zero bytes after them
 abbrev pub Holding : List ℕ → List (List ℕ) → Type 0
 Holding b ls = b ≡ slots ls ++ replicate (width * rows - width * length ls) 0
@@ -64,40 +91,75 @@ pub record Holds (kept : Store) (st : State) : Type 0 where
   pub next-held : kept .next ≡ length (st .entries)
   pub few : length (st .entries) ≤ rows * rows
 
--- line k of a section, both from 0, is due, and m lines after it
-pub record Due (section n k m : ℕ) (st : State) : Type 0 where
-  pub section-is : st .section ≡ suc section
-  pub left-is : st .left ≡ suc m
-  pub in-rows : section ≡ 0 → length (st .row-labels) ≡ k
-  pub in-cols : section ≡ 1 → length (st .col-labels) ≡ k
-  pub in-orders : section ≡ 2 → length (st .row-labels) ≡ n
+-- ---- the lines of a section
+-- so many labels of rows, and of columns, stand before line k of a section, which counts from 0
+abbrev pub row-count : Section → ℕ → ℕ → ℕ
+row-count Rows n k = k
+row-count Cols n k = n
+row-count Orders n k = n
 
--- line k of a section may be kept: the section, N and k are within the limits, and the label buffers are whole
-pub record Within (section n k : ℕ) (b c : List ℕ) : Type 0 where
-  pub three : section < 3
+abbrev pub col-count : Section → ℕ → ℕ → ℕ
+col-count Rows n k = 0
+col-count Cols n k = k
+col-count Orders n k = n
+
+-- the lines of st end before line k of a section, and m lines are due from there
+pub record InSection (section : Section) (n k m : ℕ) (st : State) : Type 0 where
+  pub section-is : st .section ≡ meant section
+  pub left-is : st .left ≡ m
+  pub rows-are : length (st .row-labels) ≡ row-count section n k
+  pub cols-are : length (st .col-labels) ≡ col-count section n k
+
+-- a label buffer has a place for line k of a section
+abbrev pub Place-for : Section → ℕ → Type 0
+Place-for Rows k = k < rows
+Place-for Cols k = k < rows
+Place-for Orders k = Unit
+
+-- line k of a section may be kept: N and k are within the limits, and the label buffers are whole
+pub record Within (section : Section) (n k : ℕ) (b c : List ℕ) : Type 0 where
   pub few : n ≤ rows
-  pub room : section < 2 → k < rows
+  pub room : Place-for section k
   pub rows-whole : length b ≡ width * rows
   pub cols-whole : length c ≡ width * rows
 
--- the line l can stand after those of st, and what it says is kept; or it cannot
-pub record LineKept (st : State) (l : List ℕ) (fits : Bool) (kept : Store) : Type 0 where
-  pub fit : fits ≡ true → (st′ : State) × After st l st′ × Holds kept st′
-  pub unfit : fits ≡ false → (st′ : State) → After st l st′ → ⊥
+-- the line l can stand after those of st, as the last before line k of a section, and what it says is kept; or it cannot
+pub record LineKept (section : Section) (n k m : ℕ) (st : State) (l : List ℕ) (r : Fit) (t : List ℤ) (b c : List ℕ) : Type 0 where
+  pub fit : (next : ℕ) → r ≡ Next next → (st′ : State) × After st l st′ × InSection section n k m st′ × Holds (store t b c next) st′
+  pub unfit : r ≡ NoFit → (st′ : State) → After st l st′ → ⊥
 
--- the walk's end: a wrong line; or the sheet may end after the bytes passed, and what they said is kept
-pub record Ends (s : List ℕ) (r : Walked) (t : List ℤ) (b c : List ℕ) (st : State) : Type 0 where
-  pub final : Final st
+-- the same of the line at the front of s, which takes so many bytes, its line feed among them
+pub record LineTaken (st : State) (s : List ℕ) (taken : ℕ) (st′ : State) : Type 0 where
+  pub line : List ℕ
+  pub stands : After st line st′
+  pub ended : Ended s line (drop taken s)
+  pub inside : taken ≤ length s
+
+pub record FrontKept (section : Section) (n k m : ℕ) (st : State) (s : List ℕ) (r : Kept) (t : List ℤ) (b c : List ℕ) : Type 0 where
+  pub fit : (next taken : ℕ) → r ≡ Line next taken
+      → (st′ : State) × LineTaken st s taken st′ × InSection section n k m st′ × Holds (store t b c next) st′
+  pub unfit : r ≡ NoLine → (l x : List ℕ) (st′ : State) → Ended s l x → After st l st′ → ⊥
+
+-- a line is kept as line k of a section, whatever the lines before it said
+abbrev pub Keeps : Section → ℕ → ℕ → Store → List ℕ → Fit → List ℤ → List ℕ → List ℕ → Type 0
+Keeps section n k kept l r t b c =
+    (st : State) (m : ℕ) → Holds kept st → InSection section n k (suc m) st → LineKept section n (k + 1) m st l r t b c
+
+abbrev pub KeepsFront : Section → ℕ → ℕ → Store → List ℕ → Kept → List ℤ → List ℕ → List ℕ → Type 0
+KeepsFront section n k kept s r t b c =
+    (st : State) (m : ℕ) → Holds kept st → InSection section n k (suc m) st → FrontKept section n (k + 1) m st s r t b c
+
+-- ---- the walk's end
+-- the sheet is good: N, and what its lines said is kept
+pub record Ends (s : List ℕ) (n : ℕ) (t : List ℤ) (b c : List ℕ) : Type 0 where
+  pub st : State
   pub next : ℕ
+  pub read : Reads start 1 s (good (tableOf st))
   pub held : Holds (store t b c next) st
-  pub rows-are : r .n ≡ length (st .row-labels)
-  pub rows-few : r .n ≤ rows
-  pub cols-are : length (st .col-labels) ≡ length (st .row-labels)
-  pub inside : r .at ≤ length s
-  pub line-small : r .line ≤ r .at + 1
-  pub line-some : 1 ≤ r .line
-  pub whole : (o : Outcome) → Reads st (r .line) (drop (r .at) s) o → Reads start 1 s o
+  pub rows-are : length (st .row-labels) ≡ n
+  pub cols-are : length (st .col-labels) ≡ n
+  pub few : n ≤ rows
 
 pub record WalkTells (s : List ℕ) (r : Walked) (t : List ℤ) (b c : List ℕ) : Type 0 where
-  pub stopped : r .wrong ≢ 0 → Reads start 1 s (wrong (r .wrong))
-  pub ended : r .wrong ≡ 0 → (st : State) × Ends s r t b c st
+  pub ended : (n : ℕ) → r ≡ Walked·Rows n → Ends s n t b c
+  pub stopped : (k : ℕ) → r ≡ Wrong k → WrongLine s k

@@ -2,10 +2,12 @@ ghost use mathlib.Core.Path.{_≡_};
 ghost use mathlib.Core.List.{List, _++_};
 ghost use Prim.Native.Nat.{ℕ, _+_, _*_, _<_, _≤_};
 ghost use lib.ListN.{length, take, drop};
-ghost use Rattle.reader.specs.Parts.{OrderIs, PlaceOf, HeadingOf, Holding, LabelKept, store, Holds, Due, Within, LineKept, WalkTells};
+ghost use Rattle.reader.specs.Parts.{OrderIs, PlaceOf, before, size-after, HeadingIs};
+ghost use Rattle.reader.specs.Parts.{Holding, LabelKept, store, Holds, Within, Keeps, KeepsFront, WalkTells};
+ghost use Rattle.fields.specs.Fields.{FrontOf, UnsignedOf};
 ghost use Rattle.theory.specs.Limits.{rows};
 ghost use Rattle.sheet.specs.Labels.{Labels, width};
-ghost use Rattle.sheet.specs.Reading.{State, start};
+ghost use Rattle.sheet.specs.Reading.{Heading, start};
 ghost use lib.Seq.{paste};
 ghost use Rattle.reader.specs.Promise.{ReadPromise, lent, says};
 use fields::Front;
@@ -40,18 +42,29 @@ enum Place {
     Nothing,
 }
 
-// Whether a line was fit, and the first place that no order has reached.
-struct Kept {
-    fits: bool,
-    next: usize,
+// The sections of a sheet, in their order.
+enum Section {
+    Rows,
+    Cols,
+    Orders,
 }
 
-// The wrong line, or 0; N; the bytes passed; and the number of the line after them.
-struct Walked {
-    wrong: usize,
-    n: usize,
-    at: usize,
-    line: usize,
+// The first place that no order has reached, where a line was kept; or nothing.
+enum Fit {
+    Next(usize),
+    Nothing,
+}
+
+// The same, with the bytes that the line takes.
+enum Kept {
+    Line { next: usize, taken: usize },
+    Nothing,
+}
+
+// What the lines of a sheet come to: N, or the number of the wrong line.
+enum Walked {
+    Rows(usize),
+    Wrong(usize),
 }
 
 // The order that a line says: its row, its column and the order, each handed the rest of the line. Rules out a row or a column
@@ -77,16 +90,46 @@ fn order_line(line: &[u8], n: usize) -> Place
     }
 }
 
-// The count of the heading that comes after so many sections. Rules out another section's heading, and a count of columns that is
-// not N.
-fn heading(line: &[u8], section: usize, n: usize) -> Unsigned
-    requires { ⌜ (section < 3) × (n ≤ rows) ⌝ }
-    ensures { λ r. ⌜ HeadingOf (now (line .entry)) section n r ⌝ }
+// The count of a section's heading. Rules out another section's heading, and a count of columns that is not N.
+fn heading_count(section: Section, n: usize, line: &[u8]) -> Unsigned
+    requires { ⌜ n ≤ rows ⌝ }
+    ensures { λ r. ⌜ UnsignedOf (λ c. Heading (before section) n c (now (line .entry))) r ⌝ }
 {
     match section {
-        0 => count_after(line, b"rows ", 1, ROWS),
-        1 => count_after(line, b"cols ", n, n),
-        _ => count_after(line, b"orders ", 0, n * n),
+        Section::Rows => count_after(line, b"rows ", 1, ROWS),
+        Section::Cols => count_after(line, b"cols ", n, n),
+        Section::Orders => count_after(line, b"orders ", 0, n * n),
+    }
+}
+
+// A section's heading, found at the front of the rest of the sheet: its count, and the bytes that it takes. Rules out a heading that
+// is not a whole line, and bytes of the next line taken with it.
+fn heading(section: Section, n: usize, rest: &[u8]) -> Front
+    requires { ⌜ n ≤ rows ⌝ }
+    ensures { λ r. ⌜ FrontOf (HeadingIs section n (now (rest .entry))) r ⌝ }
+{
+    let end = line_end(rest);
+    if end == rest.len() {
+        return Front::Nothing;
+    }
+    let Unsigned::Is(count) = heading_count(section, n, &rest[..end]) else {
+        return Front::Nothing;
+    };
+    let taken = end + 1;
+    Front::Number {
+        value: count,
+        taken,
+    }
+}
+
+// N after a section's heading. Rules out a count of orders taken for N.
+fn size_after(section: Section, n: usize, count: usize) -> usize
+    ensures { λ r. ⌜ r ≡ size-after section n count ⌝ }
+{
+    match section {
+        Section::Rows => count,
+        Section::Cols => n,
+        Section::Orders => n,
     }
 }
 
@@ -123,30 +166,25 @@ fn keep_label(k: usize, line: &[u8], labels: &mut [u8; LABELS]) -> bool
 
 // Keeps the line as an order, if it says one at a place that no line before has reached. Rules out an order at another place or of
 // another value, and a place named twice.
-fn keep_order(n: usize, next: usize, line: &[u8], table: &mut [i16; PLACES]) -> Kept
+fn keep_order(n: usize, next: usize, line: &[u8], table: &mut [i16; PLACES]) -> Fit
     requires { ⌜ n ≤ rows ⌝ }
-    ensures { λ r. ⌜ ((st : State) (m : ℕ) (b c : List ℕ)
-        → Holds (store (now (table .entry)) b c next) st
-        → Due 2 n 0 m st
-        → LineKept st (now (line .entry)) (r .fits) (store (now (table .exit)) b c (r .next))) ⌝ }
+    ensures { λ r. ⌜ ((b c : List ℕ) (k : ℕ)
+        → Keeps Section.Orders n k (store (now (table .entry)) b c next) (now (line .entry)) r (now (table .exit)) b c) ⌝ }
 {
     let Place::At { row, col, v } = order_line(line, n) else {
-        return Kept { fits: false, next };
+        return Fit::Nothing;
     };
     let at = row * n + col;
     if at < next {
-        return Kept { fits: false, next };
+        return Fit::Nothing;
     }
     table[at] = v;
-    Kept {
-        fits: true,
-        next: at + 1,
-    }
+    Fit::Next(at + 1)
 }
 
-// Keeps the line as line k of a section, from 0 both. Rules out a line kept in another section's place.
-fn keep(
-    section: usize,
+// Keeps the line as line k of a section, from 0. Rules out a line kept in another section's place.
+fn keep_line(
+    section: Section,
     n: usize,
     k: usize,
     next: usize,
@@ -154,28 +192,68 @@ fn keep(
     table: &mut [i16; PLACES],
     rows: &mut [u8; LABELS],
     cols: &mut [u8; LABELS],
-) -> Kept
+) -> Fit
     requires { ⌜ Within section n k (now rows) (now cols) ⌝ }
-    ensures { λ r. ⌜ ((st : State) (m : ℕ)
-        → Holds (store (now (table .entry)) (now (rows .entry)) (now (cols .entry)) next) st
-        → Due section n k m st
-        → LineKept st (now (line .entry)) (r .fits) (store (now (table .exit)) (now (rows .exit)) (now (cols .exit)) (r .next))) ⌝ }
+    ensures { λ r. ⌜ Keeps section n k (store (now (table .entry)) (now (rows .entry)) (now (cols .entry)) next) (now (line .entry)) r
+        (now (table .exit)) (now (rows .exit)) (now (cols .exit)) ⌝ }
 {
     match section {
-        0 => Kept {
-            fits: keep_label(k, line, &mut *rows),
-            next,
-        },
-        1 => Kept {
-            fits: keep_label(k, line, &mut *cols),
-            next,
-        },
-        _ => keep_order(n, next, line, &mut *table),
+        Section::Rows => {
+            if keep_label(k, line, &mut *rows) {
+                return Fit::Next(next);
+            }
+            Fit::Nothing
+        }
+        Section::Cols => {
+            if keep_label(k, line, &mut *cols) {
+                return Fit::Next(next);
+            }
+            Fit::Nothing
+        }
+        Section::Orders => keep_order(n, next, line, &mut *table),
     }
 }
 
-// The sections and their lines, one after the other, left by label at the first wrong line. Rules out another line named wrong, and
-// a line passed whose label or order is not kept.
+// Keeps the line at the front of the rest of the sheet as line k of a section. Rules out a line that is missing or unended, and
+// bytes of the next line taken with it.
+fn keep(
+    section: Section,
+    n: usize,
+    k: usize,
+    next: usize,
+    rest: &[u8],
+    table: &mut [i16; PLACES],
+    rows: &mut [u8; LABELS],
+    cols: &mut [u8; LABELS],
+) -> Kept
+    requires { ⌜ Within section n k (now rows) (now cols) ⌝ }
+    ensures { λ r. ⌜ KeepsFront section n k (store (now (table .entry)) (now (rows .entry)) (now (cols .entry)) next) (now (rest .entry)) r
+        (now (table .exit)) (now (rows .exit)) (now (cols .exit)) ⌝ }
+{
+    let end = line_end(rest);
+    if end == rest.len() {
+        return Kept::Nothing;
+    }
+    let Fit::Next(after) = keep_line(
+        section,
+        n,
+        k,
+        next,
+        &rest[..end],
+        &mut *table,
+        &mut *rows,
+        &mut *cols,
+    ) else {
+        return Kept::Nothing;
+    };
+    Kept::Line {
+        next: after,
+        taken: end + 1,
+    }
+}
+
+// The sections and their lines, one after the other, left by label at the first wrong line; the rest of the sheet is handed on from
+// each to the next. Rules out another line named wrong, and a line passed whose label or order is not kept.
 fn walk(
     sheet: &[u8],
     table: &mut [i16; PLACES],
@@ -185,56 +263,58 @@ fn walk(
     requires { ⌜ Holds (store (now table) (now rows) (now cols) 0) start ⌝ }
     ensures { λ r. ⌜ WalkTells (now (sheet .entry)) r (now (table .exit)) (now (rows .exit)) (now (cols .exit)) ⌝ }
 {
-    let mut next: usize = 0;
+    let mut section = Section::Rows;
     let mut n: usize = 0;
-    let mut section: usize = 0;
+    let mut next: usize = 0;
+    let mut rest = sheet;
     let mut line: usize = 1;
-    let mut at: usize = 0;
-    let mut wrong: usize = 0;
-    'sheet: while section < 3 {
-        let end = at + line_end(&sheet[at..]);
-        if end == sheet.len() {
-            wrong = line;
-            break 'sheet;
-        }
-        let Unsigned::Is(c) = heading(&sheet[at..end], section, n) else {
-            wrong = line;
+    let walked: Walked;
+    'sheet: loop {
+        let Front::Number {
+            value: count,
+            taken,
+        } = heading(section, n, rest)
+        else {
+            walked = Walked::Wrong(line);
             break 'sheet;
         };
-        if section == 0 {
-            n = c;
-        }
-        at = end + 1;
+        n = size_after(section, n, count);
+        rest = &rest[taken..];
         line += 1;
         let mut k: usize = 0;
-        while k < c {
-            let end = at + line_end(&sheet[at..]);
-            if end == sheet.len() {
-                wrong = line;
-                break 'sheet;
-            }
-            let kept = keep(
+        while k < count {
+            let Kept::Line { next: after, taken } = keep(
                 section,
                 n,
                 k,
                 next,
-                &sheet[at..end],
+                rest,
                 &mut *table,
                 &mut *rows,
                 &mut *cols,
-            );
-            if !kept.fits {
-                wrong = line;
+            ) else {
+                walked = Walked::Wrong(line);
                 break 'sheet;
-            }
-            next = kept.next;
-            at = end + 1;
+            };
+            next = after;
+            rest = &rest[taken..];
             line += 1;
             k += 1;
         }
-        section += 1;
+        match section {
+            Section::Rows => section = Section::Cols,
+            Section::Cols => section = Section::Orders,
+            Section::Orders => {
+                if rest.len() == 0 {
+                    walked = Walked::Rows(n);
+                } else {
+                    walked = Walked::Wrong(line);
+                }
+                break 'sheet;
+            }
+        }
     }
-    Walked { wrong, n, at, line }
+    walked
 }
 
 // The first bytes of what was kept, copied over the front of a lent buffer. Rules out a byte changed after them.
@@ -266,7 +346,8 @@ fn copy_entries(from: &[i16; PLACES], count: usize, to: &mut [i16])
 // rules out a reader that takes a sheet in any but its one form, that names another line than the first wrong one, that leaves
 // part of a refused sheet in the buffers, or that writes beyond the N × N entries and the N labels.
 pub fn read_sheet(sheet: &[u8], table: &mut [i16], rows: &mut [u8], cols: &mut [u8]) -> Read
-    ensures { λ r. ⌜ ReadPromise (now (sheet .entry)) (lent (now (table .entry)) (now (rows .entry)) (now (cols .entry))) (lent (now (table .exit)) (now (rows .exit)) (now (cols .exit))) (says r) ⌝ }
+    ensures { λ r. ⌜ ReadPromise (now (sheet .entry)) (lent (now (table .entry)) (now (rows .entry)) (now (cols .entry)))
+        (lent (now (table .exit)) (now (rows .exit)) (now (cols .exit))) (says r) ⌝ }
 {
     if table.len() != PLACES {
         return Read::Refused(Refusal::Length);
@@ -285,18 +366,13 @@ pub fn read_sheet(sheet: &[u8], table: &mut [i16], rows: &mut [u8], cols: &mut [
     let mut row_labels = [0u8; LABELS];
     let mut col_labels = [0u8; LABELS];
     let walked = walk(sheet, &mut entries, &mut row_labels, &mut col_labels);
-    let wrong = walked.wrong;
-    if wrong != 0 {
-        return Read::Refused(Refusal::Line(wrong));
+    match walked {
+        Walked::Wrong(line) => Read::Refused(Refusal::Line(line)),
+        Walked::Rows(n) => {
+            copy_entries(&entries, n * n, table);
+            copy_bytes(&row_labels, WIDTH * n, rows);
+            copy_bytes(&col_labels, WIDTH * n, cols);
+            Read::Rows(n)
+        }
     }
-    let at = walked.at;
-    if at < sheet.len() {
-        let line = walked.line;
-        return Read::Refused(Refusal::Line(line));
-    }
-    let n = walked.n;
-    copy_entries(&entries, n * n, table);
-    copy_bytes(&row_labels, WIDTH * n, rows);
-    copy_bytes(&col_labels, WIDTH * n, cols);
-    Read::Rows(n)
 }

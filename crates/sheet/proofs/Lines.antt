@@ -2,7 +2,7 @@
 use mathlib.Core.Path.{_≡_, refl, sym, ap, subst, _∙_}
 use mathlib.Core.Logic.{_≢_}
 use mathlib.Core.List.{List, [], _∷_, _++_}
-use Prim.Native.Nat.{ℕ, zero, suc, _+_, _-_}
+use Prim.Native.Nat.{ℕ, suc, _+_, _-_}
 use native.Mathlib.Omega.{arith}
 use native.Mathlib.Decide.{ℕ-discrete}
 use lib.IntN.{ℤ, pos, negsuc}
@@ -10,7 +10,7 @@ use lib.ListN.{length, getD, length-append}
 use Rattle.sheet.specs.Text.{Each, feed, blank, text, signed, rowsHead, colsHead, ordersHead}
 use Rattle.sheet.specs.Labels.{Form}
 use Rattle.sheet.specs.Sheet.{orderText}
-use Rattle.sheet.specs.Reading.{Ended, Heading}
+use Rattle.sheet.specs.Reading.{Ended, Section, opening, of-rows, of-cols, of-orders, Heading}
 use Rattle.sheet.proofs.Bytes.{front-once, each-weak, each-append, each-cons, each-right, append-cancel}
 use Rattle.sheet.proofs.Numbers.{Digit, NoDigit, text-digits, text-once, number-once}
 use Rattle.sheet.proofs.Slots.{letter-low}
@@ -100,12 +100,19 @@ orders-unbroken c =
     (each-cons (λ b. b ≢ feed) 115 (32 ∷ []) (omega arith)
     (each-cons (λ b. b ≢ feed) 32 [] (omega arith) (λ k h. absurd (omega arith)))))))))
 
+-- the sections by number, so that arithmetic tells two of them apart
+abbrev pub rank : Section → ℕ
+rank opening = 0
+rank of-rows = 1
+rank of-cols = 2
+rank of-orders = 3
+
 -- a heading's count
-pub heading-once : (s n c d : ℕ) (l : List ℕ) → Heading s n c l → Heading s n d l → c ≡ d
-heading-once zero n c d l p q = text-once c d (append-cancel rowsHead (text c) (text d) (sym (p .2) ∙ q .2))
-heading-once (suc zero) n c d l p q = omega arith
-heading-once (suc (suc zero)) n c d l p q = text-once c d (append-cancel ordersHead (text c) (text d) (sym (p .2) ∙ q .2))
-heading-once (suc (suc (suc s))) n c d l p q = absurd p
+pub heading-once : (s : Section) (n c d : ℕ) (l : List ℕ) → Heading s n c l → Heading s n d l → c ≡ d
+heading-once opening n c d l p q = text-once c d (append-cancel rowsHead (text c) (text d) (sym (p .2) ∙ q .2))
+heading-once of-rows n c d l p q = omega arith
+heading-once of-cols n c d l p q = text-once c d (append-cancel ordersHead (text c) (text d) (sym (p .2) ∙ q .2))
+heading-once of-orders n c d l p q = absurd p
 
 -- an order's value
 minus-no-text : (n : ℕ) (x : List ℕ) → text n ≡ 45 ∷ x → ⊥

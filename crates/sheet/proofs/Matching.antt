@@ -12,21 +12,21 @@ use Rattle.theory.specs.Table.{absent, Order, Entries}
 use Rattle.sheet.specs.Text.{feed, text, ended, rowsHead, colsHead, ordersHead}
 use Rattle.sheet.specs.Labels.{Labels}
 use Rattle.sheet.specs.Sheet.{Labelled, Stands, labelLines, isAbsent, presentCount, orderText, orderLines, labelSection, orderSection, sheetOf}
-use Rattle.sheet.specs.Reading.{Ended, State, start, After, heading, row-label, col-label, order-line, Final, Outcome, good, tableOf, Reads, done, short, unfit, next}
+use Rattle.sheet.specs.Reading.{Ended, of-rows, of-cols, of-orders, State, start, After, heading, row-label, col-label, order-line, Final, Outcome, good, tableOf, Reads, done, short, unfit, next}
 use Rattle.sheet.proofs.Slots.{labels-none, labels-more, labels-new, labels-form, length-more}
-use Rattle.sheet.proofs.Lines.{Unbroken, rows-unbroken, cols-unbroken, orders-unbroken, label-unbroken, order-unbroken}
+use Rattle.sheet.proofs.Lines.{Unbroken, rank, rows-unbroken, cols-unbroken, orders-unbroken, label-unbroken, order-unbroken}
 use Rattle.sheet.proofs.Orders.{label-lines-append, label-lines-one, absent-is, absent-not, order-present, lines-append, lines-absent, lines-one, count-append, count-absent, count-one, place-row, place-col, cell, row-inside, col-inside, row-col, entries-none, entries-append, entries-right, entries-absent, entries-one}
 use Rattle.sheet.proofs.Once.{good-once}
 
 -- the state in each section
 abbrev pub inRows : ℕ → List (List ℕ) → State
-inRows m rs = record { section = 1; left = m; row-labels = rs; col-labels = []; entries = [] }
+inRows m rs = record { section = of-rows; left = m; row-labels = rs; col-labels = []; entries = [] }
 
 abbrev pub inCols : ℕ → List (List ℕ) → List (List ℕ) → State
-inCols m rs cs = record { section = 2; left = m; row-labels = rs; col-labels = cs; entries = [] }
+inCols m rs cs = record { section = of-cols; left = m; row-labels = rs; col-labels = cs; entries = [] }
 
 abbrev pub inOrders : ℕ → List (List ℕ) → List (List ℕ) → List ℤ → State
-inOrders m rs cs e = record { section = 3; left = m; row-labels = rs; col-labels = cs; entries = e }
+inOrders m rs cs e = record { section = of-orders; left = m; row-labels = rs; col-labels = cs; entries = e }
 
 -- The lines so far, whose bytes are p, are the front of a sheet: in each section the heading's count is that of the lines that stand
 -- and of those still due.
@@ -85,9 +85,9 @@ unfolding labelLines orderLines presentCount more
 step {l = l} at-start (heading c z h f) =
     subst⁻¹ (λ x. Stage x (ended l)) f
     (in-rows c c [] (omega arith) (h .0) (h .1) labels-none (ap ended (h .2) ∙ sym (append-nil (ended (rowsHead ++ text c)))))
-step at-start (row-label m s z g n f) = absurd (omega arith)
-step at-start (col-label m s z g n f) = absurd (omega arith)
-step at-start (order-line m i j v s z p q o t u f) = absurd (omega arith)
+step at-start (row-label m s z g n f) = absurd (omega (arith, ap rank s))
+step at-start (col-label m s z g n f) = absurd (omega (arith, ap rank s))
+step at-start (order-line m i j v s z p q o t u f) = absurd (omega (arith, ap rank s))
 step {p = p} {l = l} (in-rows c m rs e a b ls q) (heading d z h f) =
     let k : c ≡ length rs = omega arith in
     let x : d ≡ length rs = omega arith in
@@ -103,8 +103,8 @@ step {p = p} {l = l} (in-rows c m rs e a b ls q) (row-label m′ s z g n f) =
     ∙ append-assoc (ended (rowsHead ++ text c)) (labelLines rs) (ended l)
     ∙ ap (λ y. ended (rowsHead ++ text c) ++ y)
     (ap (λ y. labelLines rs ++ y) (sym (label-lines-one l)) ∙ sym (label-lines-append rs (l ∷ [])))))
-step (in-rows c m rs e a b ls q) (col-label m′ s z g n f) = absurd (omega arith)
-step (in-rows c m rs e a b ls q) (order-line m′ i j v s z p r o t u f) = absurd (omega arith)
+step (in-rows c m rs e a b ls q) (col-label m′ s z g n f) = absurd (omega (arith, ap rank s))
+step (in-rows c m rs e a b ls q) (order-line m′ i j v s z p r o t u f) = absurd (omega (arith, ap rank s))
 step {p = p} {l = l} (in-cols m rs cs e a b ls ks q) (heading d z h f) =
     let k : length rs ≡ length cs = omega arith in
     subst⁻¹ (λ y. Stage y (p ++ ended l)) f
@@ -112,7 +112,7 @@ step {p = p} {l = l} (in-cols m rs cs e a b ls ks q) (heading d z h f) =
     (ap (λ y. y ++ ended l) (q ∙ ap (λ y. labelSection rowsHead rs ++ (ended (colsHead ++ text y) ++ labelLines cs)) k)
     ∙ append-assoc (labelSection rowsHead rs) (labelSection colsHead cs) (ended l)
     ∙ ap (λ y. labelSection rowsHead rs ++ (labelSection colsHead cs ++ y)) (ap ended (h .2) ∙ sym (append-nil (ended (ordersHead ++ text d))))))
-step (in-cols m rs cs e a b ls ks q) (row-label m′ s z g n f) = absurd (omega arith)
+step (in-cols m rs cs e a b ls ks q) (row-label m′ s z g n f) = absurd (omega (arith, ap rank s))
 step {p = p} {l = l} (in-cols m rs cs e a b ls ks q) (col-label m′ s z g n f) =
     let h = ended (colsHead ++ text (length rs)) in
     subst⁻¹ (λ y. Stage y (p ++ ended l)) f
@@ -122,10 +122,10 @@ step {p = p} {l = l} (in-cols m rs cs e a b ls ks q) (col-label m′ s z g n f) 
     ∙ ap (λ y. labelSection rowsHead rs ++ y)
     (append-assoc h (labelLines cs) (ended l)
     ∙ ap (λ y. h ++ y) (ap (λ y. labelLines cs ++ y) (sym (label-lines-one l)) ∙ sym (label-lines-append cs (l ∷ []))))))
-step (in-cols m rs cs e a b ls ks q) (order-line m′ i j v s z p r o t u f) = absurd (omega arith)
+step (in-cols m rs cs e a b ls ks q) (order-line m′ i j v s z p r o t u f) = absurd (omega (arith, ap rank s))
 step (in-orders c m rs cs e k w a b ls ks x y q) (heading d z h f) = absurd h
-step (in-orders c m rs cs e k w a b ls ks x y q) (row-label m′ s z g n f) = absurd (omega arith)
-step (in-orders c m rs cs e k w a b ls ks x y q) (col-label m′ s z g n f) = absurd (omega arith)
+step (in-orders c m rs cs e k w a b ls ks x y q) (row-label m′ s z g n f) = absurd (omega (arith, ap rank s))
+step (in-orders c m rs cs e k w a b ls ks x y q) (col-label m′ s z g n f) = absurd (omega (arith, ap rank s))
 step {p = p} {l = l} (in-orders c m rs cs e k w a b ls ks x y q) (order-line m′ i j v s z g r o t u f) =
     let n = length rs in
     let h = ended (ordersHead ++ text c) in
@@ -146,9 +146,9 @@ pub record Written (t : Labelled) (s : List ℕ) : Type 0 where
   pub stands : Stands t
 
 finish : {st : State} {p : List ℕ} → Stage st p → Final st → Written (tableOf st) p
-finish at-start f = absurd (omega arith)
-finish (in-rows c m rs e a b ls q) f = absurd (omega arith)
-finish (in-cols m rs cs e a b ls ks q) f = absurd (omega arith)
+finish at-start f = absurd (omega (arith, ap rank (f .last)))
+finish (in-rows c m rs e a b ls q) f = absurd (omega (arith, ap rank (f .last)))
+finish (in-cols m rs cs e a b ls ks q) f = absurd (omega (arith, ap rank (f .last)))
 finish (in-orders c m rs cs e k w a b ls ks x y q) f =
     let n = length rs in
     let d = n * n - length e in

@@ -6,7 +6,7 @@ use native.Mathlib.Omega.{arith}
 use lib.ListN.{length}
 use Rattle.sheet.specs.Sheet.{Labelled}
 use Rattle.sheet.specs.Reading.{Ended, State, After, heading, row-label, col-label, order-line, begun, withRow, withCol, withOrder, Outcome, good, wrong, Reads, done, short, unfit, next}
-use Rattle.sheet.proofs.Lines.{ended-once, unbroken-unended, none-unended, heading-once, order-once}
+use Rattle.sheet.proofs.Lines.{ended-once, unbroken-unended, none-unended, rank, heading-once, order-once}
 
 -- what a line says after those before it
 pub after-once : (st : State) (l : List ℕ) (a b : State) → After st l a → After st l b → a ≡ b
@@ -18,16 +18,16 @@ after-once st l a b (heading c z h e) (order-line m i j v s y p q r t u f) = abs
 after-once st l a b (row-label m s y g n f) (heading c z h e) = absurd (omega arith)
 after-once st l a b (row-label m s y g n f) (row-label m′ s′ y′ g′ n′ f′) =
     let e : m ≡ m′ = omega arith in f ∙ ap (λ x. withRow st x l) e ∙ sym f′
-after-once st l a b (row-label m s y g n f) (col-label m′ s′ y′ g′ n′ f′) = absurd (omega arith)
-after-once st l a b (row-label m s y g n f) (order-line m′ i j v s′ y′ p q r t u f′) = absurd (omega arith)
+after-once st l a b (row-label m s y g n f) (col-label m′ s′ y′ g′ n′ f′) = absurd (omega (arith, ap rank s, ap rank s′))
+after-once st l a b (row-label m s y g n f) (order-line m′ i j v s′ y′ p q r t u f′) = absurd (omega (arith, ap rank s, ap rank s′))
 after-once st l a b (col-label m s y g n f) (heading c z h e) = absurd (omega arith)
-after-once st l a b (col-label m s y g n f) (row-label m′ s′ y′ g′ n′ f′) = absurd (omega arith)
+after-once st l a b (col-label m s y g n f) (row-label m′ s′ y′ g′ n′ f′) = absurd (omega (arith, ap rank s, ap rank s′))
 after-once st l a b (col-label m s y g n f) (col-label m′ s′ y′ g′ n′ f′) =
     let e : m ≡ m′ = omega arith in f ∙ ap (λ x. withCol st x l) e ∙ sym f′
-after-once st l a b (col-label m s y g n f) (order-line m′ i j v s′ y′ p q r t u f′) = absurd (omega arith)
+after-once st l a b (col-label m s y g n f) (order-line m′ i j v s′ y′ p q r t u f′) = absurd (omega (arith, ap rank s, ap rank s′))
 after-once st l a b (order-line m i j v s y p q r t u f) (heading c z h e) = absurd (omega arith)
-after-once st l a b (order-line m i j v s y p q r t u f) (row-label m′ s′ y′ g′ n′ f′) = absurd (omega arith)
-after-once st l a b (order-line m i j v s y p q r t u f) (col-label m′ s′ y′ g′ n′ f′) = absurd (omega arith)
+after-once st l a b (order-line m i j v s y p q r t u f) (row-label m′ s′ y′ g′ n′ f′) = absurd (omega (arith, ap rank s, ap rank s′))
+after-once st l a b (order-line m i j v s y p q r t u f) (col-label m′ s′ y′ g′ n′ f′) = absurd (omega (arith, ap rank s, ap rank s′))
 after-once st l a b (order-line m i j v s y p q r t u f) (order-line m′ i′ j′ v′ s′ y′ p′ q′ r′ t′ u′ f′) =
     let o = order-once i j v i′ j′ v′ (sym u ∙ u′) in
     let e : m ≡ m′ = omega arith in

@@ -3,7 +3,7 @@
 use mathlib.Core.Path.{_≡_}
 use mathlib.Core.Logic.{_≢_}
 use mathlib.Core.List.{List, [], _∷_, _++_}
-use Prim.Native.Nat.{ℕ, zero, suc, _+_, _-_, _*_, _≤_, _<_}
+use Prim.Native.Nat.{ℕ, suc, _+_, _-_, _*_, _≤_, _<_}
 use lib.IntN.{ℤ}
 use lib.ListN.{length, replicate}
 use Rattle.theory.specs.Limits.{rows, order, sheet}
@@ -17,32 +17,46 @@ pub record Ended (s l rest : List ℕ) : Type 0 where
   pub parts : s ≡ l ++ feed ∷ rest
   pub whole : Each (λ b. b ≢ feed) l
 
--- what the lines so far said: the sections begun, the lines still due in the last of them, the labels, and the entries up to and
--- with the last order
+-- the sections of a sheet, and before them its opening
+pub data Section : Type 0 where
+  opening : Section
+  of-rows : Section
+  of-cols : Section
+  of-orders : Section
+
+-- "Sections in a fixed order": the one that comes after; none comes after the orders
+abbrev pub following : Section → Section
+following opening = of-rows
+following of-rows = of-cols
+following of-cols = of-orders
+following of-orders = of-orders
+
+-- what the lines so far said: the section in which they end, the lines still due in it, the labels, and the entries up to and with
+-- the last order
 pub record State : Type 0 where
-  pub section : ℕ
+  pub section : Section
   pub left : ℕ
   pub row-labels : List (List ℕ)
   pub col-labels : List (List ℕ)
   pub entries : List ℤ
 
 abbrev pub start : State
-start = record { section = 0; left = 0; row-labels = []; col-labels = []; entries = [] }
+start = record { section = opening; left = 0; row-labels = []; col-labels = []; entries = [] }
 
--- the line l is the heading with count c of the section that comes after so many: "`rows N`", "`cols N`, the same N", "`orders K`";
+-- the line l is the heading with count c of the section that comes after: "`rows N`", "`cols N`, the same N", "`orders K`";
 -- "N is 1 to 32, K is 0 to N × N"
-abbrev pub Heading : ℕ → ℕ → ℕ → List ℕ → Type 0
-Heading zero n c l = (1 ≤ c) × (c ≤ rows) × (l ≡ rowsHead ++ text c)
-Heading (suc zero) n c l = (c ≡ n) × (l ≡ colsHead ++ text c)
-Heading (suc (suc zero)) n c l = (0 ≤ c) × (c ≤ n * n) × (l ≡ ordersHead ++ text c)
-Heading (suc (suc (suc s))) n c l = ⊥
+abbrev pub Heading : Section → ℕ → ℕ → List ℕ → Type 0
+Heading opening n c l = (1 ≤ c) × (c ≤ rows) × (l ≡ rowsHead ++ text c)
+Heading of-rows n c l = (c ≡ n) × (l ≡ colsHead ++ text c)
+Heading of-cols n c l = (0 ≤ c) × (c ≤ n * n) × (l ≡ ordersHead ++ text c)
+Heading of-orders n c l = ⊥
 
 -- what is said after one more line: a heading with the count c, a label, an order with m lines still due. Places passed over by
 -- an order are absent.
 abbrev pub begun : State → ℕ → State
 begun st c =
     record {
-      section = suc (st .section);
+      section = following (st .section);
       left = c;
       row-labels = st .row-labels;
       col-labels = st .col-labels;
@@ -52,7 +66,7 @@ begun st c =
 abbrev pub withRow : State → ℕ → List ℕ → State
 withRow st m l =
     record {
-      section = 1;
+      section = of-rows;
       left = m;
       row-labels = st .row-labels ++ (l ∷ []);
       col-labels = st .col-labels;
@@ -62,7 +76,7 @@ withRow st m l =
 abbrev pub withCol : State → ℕ → List ℕ → State
 withCol st m l =
     record {
-      section = 2;
+      section = of-cols;
       left = m;
       row-labels = st .row-labels;
       col-labels = st .col-labels ++ (l ∷ []);
@@ -72,7 +86,7 @@ withCol st m l =
 abbrev pub withOrder : State → ℕ → ℕ → ℤ → State
 withOrder st m p v =
     record {
-      section = 3;
+      section = of-orders;
       left = m;
       row-labels = st .row-labels;
       col-labels = st .col-labels;
@@ -84,16 +98,16 @@ pub data After (st : State) (l : List ℕ) (st′ : State) : Type 0 where
   -- a section's heading, when no line of the section before is due
   heading : (c : ℕ) → st .left ≡ 0 → Heading (st .section) (length (st .row-labels)) c l → st′ ≡ begun st c → After st l st′
   -- a label of a row, and of a column
-  row-label : (m : ℕ) → st .section ≡ 1 → st .left ≡ suc m → Form l → New (st .row-labels) l → st′ ≡ withRow st m l → After st l st′
-  col-label : (m : ℕ) → st .section ≡ 2 → st .left ≡ suc m → Form l → New (st .col-labels) l → st′ ≡ withCol st m l → After st l st′
+  row-label : (m : ℕ) → st .section ≡ of-rows → st .left ≡ suc m → Form l → New (st .row-labels) l → st′ ≡ withRow st m l → After st l st′
+  col-label : (m : ℕ) → st .section ≡ of-cols → st .left ≡ suc m → Form l → New (st .col-labels) l → st′ ≡ withCol st m l → After st l st′
   -- an order: "i and j are 1 to N, v is −100 to 100", at a place that no line so far has reached
-  order-line : (m i j : ℕ) (v : ℤ) → st .section ≡ 3 → st .left ≡ suc m → i < length (st .row-labels) → j < length (st .row-labels) → Order order v
-      → length (st .entries) ≤ i * length (st .row-labels) + j → l ≡ orderText i j v → st′ ≡ withOrder st m (i * length (st .row-labels) + j) v
-      → After st l st′
+  order-line : (m i j : ℕ) (v : ℤ) → st .section ≡ of-orders → st .left ≡ suc m → i < length (st .row-labels) → j < length (st .row-labels)
+      → Order order v → length (st .entries) ≤ i * length (st .row-labels) + j → l ≡ orderText i j v
+      → st′ ≡ withOrder st m (i * length (st .row-labels) + j) v → After st l st′
 
 -- no line is due any more
 pub record Final (st : State) : Type 0 where
-  pub last : st .section ≡ 3
+  pub last : st .section ≡ of-orders
   pub none-left : st .left ≡ 0
 
 -- the labelled table that the lines of st say; places after the last order are absent

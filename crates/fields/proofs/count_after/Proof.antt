@@ -16,7 +16,9 @@ starts-with-requires : tie.Need-starts-with-requires
 starts-with-requires c κs = search needs
 
 returns : tie.Need-returns
-returns c = unsigned-none (other-start _ (c .before .before .before .before .args .head .now) _ _ (c .before .starts-with .ensures .fails (not-true _ (c .if1 .taken))))
+returns c =
+    let d = c .before in
+    unsigned-none (other-start _ (d .before .before .before .args .head .now) _ _ (d .starts-with .ensures .fails (not-true _ (c .if1 .taken))))
 
 -- the line starts with these bytes
 starts : (c : tie.Else1) → StartsWith (c .before .before .before .before .args .line .now) (c .before .before .before .before .args .head .now)
@@ -55,13 +57,15 @@ returns-2 : tie.Need-returns-2
 returns-2 c = unsigned-none (count-nothing _ (head (c .before .before)) _ _ (told (c .before .before) .none (c .enum-told .given .1)))
 
 returns-3 : tie.Need-returns-3
-returns-3 c = unsigned-none (count-low _ (head (c .before .before .before .before)) _ _ _ (told (c .before .before .before .before) .found _ (c .before .before .count .given .1)) (c .if2 .taken))
+returns-3 c =
+    let d = c .before .before .before .before in
+    unsigned-none (count-low _ (head d) _ _ _ (told d .found _ (c .before .before .count .given .1)) (c .if2 .taken))
 
 returns-4 : tie.Need-returns-4
 returns-4 c =
+    let d = c .before .before .before .before in
     unsigned-found _
-    (count-good _ (head (c .before .before .before .before)) _ _ (starts (c .before .before .before .before .before .before)) _
-    (told (c .before .before .before .before) .found _ (c .before .before .count .given .1)) (c .if2 .left))
+    (count-good _ (head d) _ _ (starts (d .before .before)) _ (told d .found _ (c .before .before .count .given .1)) (c .if2 .left))
 
 pub count-after-spec : {M : Type 1} → statement M
 count-after-spec =

@@ -28,22 +28,25 @@ shared-slice-read-b c = search needs
 is-digit-requires : tie.Need-is-digit-requires Inv-loop μ-loop
 is-digit-requires c κs = search needs
 
--- the text and the loop's state, where a byte was found to be a digit; and that it is one
+-- the text, how far it is read, and the number so far, where a byte was found to be a digit; and that it is one
 abbrev bytes : tie.Else1 Inv-loop μ-loop → List ℕ
 bytes c = c .before .before .before .before .before .before .args .s .now
 
 abbrev at : tie.Else1 Inv-loop μ-loop → ℕ
 at c = c .before .before .before .before .loop .i
 
+abbrev so-far : tie.Else1 Inv-loop μ-loop → ℕ
+so-far c = c .before .before .before .before .loop .value
+
 digit : (c : tie.Else1 Inv-loop μ-loop) → Digit (getD (bytes c) (at c) 0)
 digit c = c .before .is-digit .ensures .holds (not-false _ (c .if1 .left))
 
 -- with it the number goes on, where it does not stand behind a leading zero
 more : (c : tie.Joined3 Inv-loop μ-loop)
-    → SoFar (bytes (c .before)) (at (c .before) + 1) (c .before .before .before .before .before .loop .value * 10 + (getD (bytes (c .before)) (at (c .before)) 0 - 48))
+    → SoFar (bytes (c .before)) (at (c .before) + 1) (so-far (c .before) * 10 + (getD (bytes (c .before)) (at (c .before)) 0 - 48))
 more c =
-    let l = c .before .before .before .before .before .loop in
-    one-more (bytes (c .before)) (l .i) (l .value) (l .inv .0) (omega arith) (digit (c .before))
+    let d = c .before in
+    one-more (bytes d) (at d) (so-far d) (d .before .before .before .before .loop .inv .0) (omega arith) (digit d)
     (λ o z. ⊎-elim (λ w. w .1 .left z) (λ w. w .left o) (c .if3 .came))
 
 returns : tie.Need-returns Inv-loop μ-loop

@@ -35,7 +35,7 @@ shared-slice-read-if3 : tie.Need-shared-slice-read-if3
 shared-slice-read-if3 c = omega (arith, number (c .before .before .before) .inside)
 
 returns-4 : tie.Need-returns-4
-returns-4 c = front-none (field-other (number (c .before .before .before .before)) (omega (arith, number (c .before .before .before .before) .inside)) (c .if3 .taken))
+returns-4 c = let f = number (c .before .before .before .before) in front-none (field-other f (omega (arith, f .inside)) (c .if3 .taken))
 
 add-t7 : tie.Need-add-t7
 add-t7 c = omega (arith, number (c .before .before .before .before) .inside)

@@ -34,10 +34,12 @@ enum-told : tie.Need-enum-told
 enum-told c = search needs
 
 -- what the bytes behind a minus are
+abbrev start : tie.After-unsigned-number → tie.Start
+start c = c .before .before .before .before .before .before
+
 told : (c : tie.After-unsigned-number)
-    → UnsignedOf (NumberIs (drop 1 (c .before .before .before .before .before .before .args .s .now)) (c .before .before .before .before .before .before .args .limit))
-    (c .unsigned-number .result)
-told c = rw (rest (c .before .before .before .before .before .before .args .s .now) 1) at (c .unsigned-number .ensures)
+    → UnsignedOf (NumberIs (drop 1 (start c .args .s .now)) (start c .args .limit)) (c .unsigned-number .result)
+told c = rw (rest (start c .args .s .now) 1) at (c .unsigned-number .ensures)
 
 returns-2 : tie.Need-returns-2
 returns-2 c = signed-none (minus-nothing _ _ (c .before .before .before .before .if2 .taken) (told (c .before .before) .none (c .enum-told .given .1)))
@@ -75,7 +77,9 @@ enum-told-2 : tie.Need-enum-told-2
 enum-told-2 c = search needs
 
 returns-5 : tie.Need-returns-5
-returns-5 c = signed-none (plain-nothing _ _ (c .before .before .before .if2 .left) (c .before .before .unsigned-number2 .ensures .none (c .enum-told2 .given .1)))
+returns-5 c =
+    let d = c .before .before in
+    signed-none (plain-nothing _ _ (d .before .if2 .left) (d .unsigned-number2 .ensures .none (c .enum-told2 .given .1)))
 
 -- the number without one
 plain : (c : tie.After-known-told2)

@@ -2,21 +2,29 @@
 use borrow.Author.Needs.{needs}
 use native.Mathlib.Omega.{arith}
 use Rattle.sheet.proofs.Bytes.{copy-next}
-use Prim.Native.Nat.{_+_, _≤_, _-_}
+use Prim.Native.Nat.{_+_, _*_, _≤_, _-_}
 use mathlib.Core.Path.{_≡_, refl, ap, _∙_}
 use mathlib.Core.List.{_++_}
 use lib.ListN.{length, getD, set, take, drop, length-set}
+use Rattle.theory.specs.Limits.{rows}
+use Rattle.sheet.specs.Labels.{width}
 use Rattle.reader.proofs.copy_bytes.Statement.{statement}
 use Rattle.reader.proofs.copy_bytes.Tie as tie
 
 abbrev Inv-loop : tie.InvT-loop
-Inv-loop from count to₀ i₀ to i = (i ≤ count) × (count ≤ 256) × (length from ≡ 256) × (count ≤ length to₀) × (length to ≡ length to₀) × (to ≡ take i from ++ drop i to₀)
+Inv-loop from count to₀ i₀ to i =
+    (to ≡ take i from ++ drop i to₀)
+    × (i ≤ count)
+    × (count ≤ width * rows)
+    × (length from ≡ width * rows)
+    × (count ≤ length to₀)
+    × (length to ≡ length to₀)
 
 abbrev μ-loop : tie.MeasureT-loop
 μ-loop from count to₀ i₀ to i = count - i
 
 loop-holds : tie.Need-loop-holds Inv-loop μ-loop
-loop-holds c = (omega arith, c .pre .0, c .pre .2, c .pre .1, refl, refl)
+loop-holds c = (refl, omega arith, c .pre .0, c .pre .2, c .pre .1, refl)
 
 element-copy-out-to : tie.Need-element-copy-out-to Inv-loop μ-loop
 element-copy-out-to c = omega arith
@@ -32,29 +40,26 @@ loop-less c = omega arith
 
 loop-again : tie.Need-loop-again Inv-loop μ-loop
 loop-again c =
-    let loop′ = c .before .before .loop in
-    let args′ = c .before .before .before .args in
-    let l = loop′ in (
+    let l = c .before .before .loop in
+    let args′ = c .before .before .before .args in (
+      ap (λ x. set x (l .i) (getD (args′ .from .now) (l .i) 0)) (l .inv .0)
+          ∙ copy-next (args′ .from .now) (args′ .to .now) (l .i) 0 (omega arith) (omega arith),
       omega arith,
-      l .inv .1,
       l .inv .2,
       l .inv .3,
-      simp length-set (l .inv .4),
-      ap (λ x. set x (l .i) (getD (args′ .from .now) (l .i) 0)) (l .inv .5) ∙ copy-next (args′ .from .now) (args′ .to .now) (l .i) 0 (omega arith)
-          (omega arith),
+      l .inv .4,
+      simp length-set (l .inv .5),
     )
 
 same-length : tie.Need-same-length Inv-loop μ-loop
-same-length c =
-    let loop′ = c .before .loop in
-    loop′ .inv .4
+same-length c = c .before .loop .inv .5
 
 returns : tie.Need-returns Inv-loop μ-loop
 returns c =
     let loop′ = c .before .loop in
     let args′ = c .before .before .args in
     let e : loop′ .i ≡ args′ .count = omega arith in
-    loop′ .inv .5 ∙ ap (λ x. take x (args′ .from .now) ++ drop x (args′ .to .now)) e
+    loop′ .inv .0 ∙ ap (λ x. take x (args′ .from .now) ++ drop x (args′ .to .now)) e
 
 pub copy-bytes-spec : {M : Type 1} → statement M
 copy-bytes-spec =

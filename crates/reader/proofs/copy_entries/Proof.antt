@@ -1,24 +1,31 @@
 -- The entries so far are copied, the others stay. Assumes nothing.
 use native.Mathlib.Omega.{arith}
 use Rattle.sheet.proofs.Bytes.{copy-next}
-use Prim.Native.Nat.{_+_, _≤_, _-_}
+use Prim.Native.Nat.{_+_, _*_, _≤_, _-_}
 use mathlib.Core.Path.{_≡_, refl, ap, _∙_}
 use mathlib.Core.List.{_++_}
 use lib.ListN.{length, getD, set, take, drop, length-set}
 use mir.Syntax.{w16}
 use lib.IntN.{pos}
 use Rattle.orders.proofs.Entries.{back}
+use Rattle.theory.specs.Limits.{rows}
 use Rattle.reader.proofs.copy_entries.Statement.{statement}
 use Rattle.reader.proofs.copy_entries.Tie as tie
 
 abbrev Inv-loop : tie.InvT-loop
-Inv-loop from count to₀ i₀ to i = (i ≤ count) × (count ≤ 1024) × (length from ≡ 1024) × (count ≤ length to₀) × (length to ≡ length to₀) × (to ≡ take i from ++ drop i to₀)
+Inv-loop from count to₀ i₀ to i =
+    (to ≡ take i from ++ drop i to₀)
+    × (i ≤ count)
+    × (count ≤ rows * rows)
+    × (length from ≡ rows * rows)
+    × (count ≤ length to₀)
+    × (length to ≡ length to₀)
 
 abbrev μ-loop : tie.MeasureT-loop
 μ-loop from count to₀ i₀ to i = count - i
 
 loop-holds : tie.Need-loop-holds Inv-loop μ-loop
-loop-holds c = (omega arith, c .pre .0, c .pre .2, c .pre .1, refl, refl)
+loop-holds c = (refl, omega arith, c .pre .0, c .pre .2, c .pre .1, refl)
 
 mul-v : tie.Need-mul-v Inv-loop μ-loop
 mul-v c = omega arith
@@ -40,31 +47,27 @@ loop-less c = omega arith
 
 loop-again : tie.Need-loop-again Inv-loop μ-loop
 loop-again c =
-    let loop′ = c .before .before .loop in
-    let args′ = c .before .before .before .args in
-    let v′ = c .v in
-    let l = loop′ in (
+    let l = c .before .before .loop in
+    let args′ = c .before .before .before .args in (
+      rw (back w16 (getD (args′ .from .now) (l .i) (pos 0)) (c .v .given))
+          (ap (λ x. set x (l .i) (getD (args′ .from .now) (l .i) (pos 0))) (l .inv .0)
+          ∙ copy-next (args′ .from .now) (args′ .to .now) (l .i) (pos 0) (omega arith) (omega arith)),
       omega arith,
-      l .inv .1,
       l .inv .2,
       l .inv .3,
-      simp length-set (l .inv .4),
-      rw (back w16 (getD (args′ .from .now) (l .i) (pos 0)) (v′ .given))
-          (ap (λ x. set x (l .i) (getD (args′ .from .now) (l .i) (pos 0))) (l .inv .5) ∙ copy-next (args′ .from .now) (args′ .to .now) (l .i) (pos 0)
-          (omega arith) (omega arith)),
+      l .inv .4,
+      simp length-set (l .inv .5),
     )
 
 same-length : tie.Need-same-length Inv-loop μ-loop
-same-length c =
-    let loop′ = c .before .loop in
-    loop′ .inv .4
+same-length c = c .before .loop .inv .5
 
 returns : tie.Need-returns Inv-loop μ-loop
 returns c =
     let loop′ = c .before .loop in
     let args′ = c .before .before .args in
     let e : loop′ .i ≡ args′ .count = omega arith in
-    loop′ .inv .5 ∙ ap (λ x. take x (args′ .from .now) ++ drop x (args′ .to .now)) e
+    loop′ .inv .0 ∙ ap (λ x. take x (args′ .from .now) ++ drop x (args′ .to .now)) e
 
 pub copy-entries-spec : {M : Type 1} → statement M
 copy-entries-spec =

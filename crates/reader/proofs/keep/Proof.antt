@@ -1,70 +1,57 @@
--- A line is kept as a label of its section, or as an order. Assumes nothing.
+-- The line that is kept is the first of the rest. Assumes nothing.
+use borrow.Author.Needs.{needs}
 use native.Mathlib.Omega.{arith}
-use mathlib.Core.Path.{_≡_, refl, subst}
-use Rattle.reader.specs.Parts.{Due}
-use Rattle.reader.proofs.KeepLaws.{kept-row, kept-col}
+use mathlib.Core.Path.{sym}
+use lib.Seq.{length-take-le}
+use Rattle.fields.proofs.LineLaws.{line-inside}
+use Rattle.reader.proofs.KeepLaws.{front-missing, front-unfit, front-fit}
 use Rattle.reader.proofs.keep.Statement.{statement}
 use Rattle.reader.proofs.keep.Tie as tie
 
-keep-label-requires : tie.Need-keep-label-requires
-keep-label-requires c κs =
-    let pre′ = c .before .before .before .pre in
-    (pre′ .room (omega arith), pre′ .rows-whole)
-
-keep-label-requires-2 : tie.Need-keep-label-requires-2
-keep-label-requires-2 c κs =
-    let pre′ = c .before .before .before .pre in
-    (pre′ .room (omega arith), pre′ .cols-whole)
-
-keep-order-requires : tie.Need-keep-order-requires
-keep-order-requires c κs =
-    let pre′ = c .before .before .before .pre in
-    pre′ .few
+line-end-requires : tie.Need-line-end-requires
+line-end-requires c κs = search needs
 
 returns : tie.Need-returns
-returns c =
-    let args′ = c .before .before .before .before .args in
-    let match′ = c .before .before .match in
-    let keep-label′ = c .keep-label in
-    λ st m h d.
-    let g = subst (λ x. Due x (args′ .n) (args′ .k) m st) (match′ .keys1) d in
-    kept-row _ (args′ .n) (args′ .k) m (args′ .line .now) st h g (keep-label′ .result) _
-    (keep-label′ .ensures (st .row-labels) (h .rows-held) (g .in-rows refl) (h .rows-stand))
+returns c = λ st m h d. front-missing (c .before .line-end .ensures) (c .if1 .taken)
+
+slice-aggregate-keep-line : tie.Need-slice-aggregate-keep-line
+slice-aggregate-keep-line c = sym (length-take-le _ _ (c .before .before .line-end .ensures .inside))
+
+keep-line-requires : tie.Need-keep-line-requires
+keep-line-requires c κs = c .before .before .before .before .before .before .before .pre
+
+enum-known-after : tie.Need-enum-known-after
+enum-known-after c = search needs
+
+enum-told : tie.Need-enum-told
+enum-told c = search needs
 
 returns-2 : tie.Need-returns-2
 returns-2 c =
-    let args′ = c .before .before .before .before .args in
-    let match′ = c .before .before .match in
-    let keep-label2′ = c .keep-label2 in
+    let e = c .before .before .before .before .before .before .before in
     λ st m h d.
-    let g = subst (λ x. Due x (args′ .n) (args′ .k) m st) (match′ .keys2) d in
-    kept-col _ (args′ .n) (args′ .k) m (args′ .line .now) st h g (keep-label2′ .result) _
-    (keep-label2′ .ensures (st .col-labels) (h .cols-held) (g .in-cols refl) (h .cols-stand))
+    front-unfit (e .before .line-end .ensures) (e .if1 .left) _ (c .before .before .keep-line .ensures st m h d) (c .enum-told .given .1)
+
+add-t11 : tie.Need-add-t11
+add-t11 c =
+    let e = c .before .before .before .before .before .before .before .before in omega (arith, line-inside (e .before .line-end .ensures) (e .if1 .left))
 
 returns-3 : tie.Need-returns-3
 returns-3 c =
-    let args′ = c .before .before .before .before .args in
-    let pre′ = c .before .before .before .before .pre in
-    let keep-order′ = c .keep-order in
+    let e = c .before .before .before .before .before .before .before .before in
     λ st m h d.
-    let e : args′ .section ≡ 2 = omega (arith, pre′ .three) in
-    let g = subst (λ x. Due x (args′ .n) (args′ .k) m st) e d in
-    keep-order′ .ensures st m _ _ h
-    (record {
-      section-is = g .section-is;
-      left-is = g .left-is;
-      in-rows = λ z. absurd (omega arith);
-      in-cols = λ z. absurd (omega arith);
-      in-orders = g .in-orders;
-    })
+    front-fit (e .before .line-end .ensures) (e .if1 .left) _ (c .before .before .before .keep-line .ensures st m h d) _ (c .before .after .given .1)
 
 pub keep-spec : {M : Type 1} → statement M
 keep-spec =
     tie.close
     (tie.spec
-    keep-label-requires
-    keep-label-requires-2
-    keep-order-requires
+    line-end-requires
     returns
+    slice-aggregate-keep-line
+    keep-line-requires
+    enum-known-after
+    enum-told
     returns-2
+    add-t11
     returns-3)

@@ -2,23 +2,34 @@
 use borrow.Author.Needs.{needs}
 use native.Mathlib.Omega.{arith}
 use mathlib.Core.Path.{_≡_, sym, ap, _∙_}
-use Prim.Native.Nat.{_+_, _*_, _<_}
+use mathlib.Core.List.{List}
+use Prim.Native.Nat.{ℕ, _+_, _*_, _<_}
+use lib.IntN.{ℤ}
 use Rattle.theory.specs.Limits.{rows}
-use Rattle.reader.specs.Parts.{OrderIs}
 use Rattle.sheet.proofs.Lines.{order-once}
-use Rattle.reader.proofs.KeepLaws.{place-small, row-small, unkept-order, kept-order}
 use Rattle.fields.proofs.SignedLaws.{order-bits}
+use Rattle.reader.specs.Parts.{OrderIs}
+use Rattle.reader.proofs.KeepLaws.{place-small, row-small, unkept-order, kept-order}
 use Rattle.reader.proofs.keep_order.Statement.{statement}
 use Rattle.reader.proofs.keep_order.Tie as tie
 
--- the order that the line says, where it says one; and its place is inside the table
-said : (c : tie.After-known-told)
-    → OrderIs (c .before .before .before .before .before .args .n) (c .before .before .before .before .before .args .line .now) (c .before .row .given .0 .0)
-    (c .before .row .given .0 .1 .0) (c .before .row .given .0 .1 .1 .0)
+-- N, the row, the column and the order that the line says, where it says one; and its place is inside the table
+abbrev size : tie.After-known-told → ℕ
+size c = c .before .before .before .before .before .args .n
+
+abbrev row : tie.After-known-told → ℕ
+row c = c .before .row .given .0 .0
+
+abbrev col : tie.After-known-told → ℕ
+col c = c .before .row .given .0 .1 .0
+
+abbrev value : tie.After-known-told → ℤ
+value c = c .before .row .given .0 .1 .1 .0
+
+said : (c : tie.After-known-told) → OrderIs (size c) (c .before .before .before .before .before .args .line .now) (row c) (col c) (value c)
 said c = c .before .before .before .order-line .ensures .found _ _ _ (c .before .row .given .1)
 
-inside : (c : tie.After-known-told)
-    → c .before .row .given .0 .0 * c .before .before .before .before .before .args .n + c .before .row .given .0 .1 .0 < rows * rows
+inside : (c : tie.After-known-told) → row c * size c + col c < rows * rows
 inside c = place-small _ _ _ (c .before .before .before .before .before .pre) (said c .row) (said c .col)
 
 order-line-requires : tie.Need-order-line-requires
@@ -32,11 +43,8 @@ enum-told c = search needs
 
 returns : tie.Need-returns
 returns c =
-    let args′ = c .before .before .before .before .args in
-    let order-line′ = c .before .before .order-line in
-    λ st m b d h due.
-    unkept-order _ (args′ .n) m (args′ .line .now) st h due _
-    (λ i j v o r. order-line′ .ensures .none (c .enum-told .given .1) i j v o)
+    λ a b k st m h d.
+    unkept-order _ _ _ _ _ st h d _ _ _ (λ i j v o r. c .before .before .order-line .ensures .none (c .enum-told .given .1) i j v o)
 
 mul-at : tie.Need-mul-at
 mul-at c = omega (arith, row-small _ _ (c .before .before .before .before .before .pre) (said c .row))
@@ -46,16 +54,13 @@ add-at c = omega (arith, inside c)
 
 returns-2 : tie.Need-returns-2
 returns-2 c =
-    let args′ = c .before .before .before .before .before .before .args in
-    let row′ = c .before .before .row in
-    let if1′ = c .if1 in
-    λ st m b d h due.
-    unkept-order _ (args′ .n) m (args′ .line .now) st h due _
+    let d = c .before in
+    λ a b k st m h i.
+    unkept-order _ _ _ _ _ st h i _ _ _
     (λ i j v o r.
-    let s = order-once i j v (row′ .given .0 .0) (row′ .given .0 .1 .0) (row′ .given .0 .1 .1 .0) (sym (o .is) ∙ said (c .before) .is) in
-    let t : i * args′ .n + j ≡ row′ .given .0 .0 * args′ .n + row′ .given .0 .1 .0 =
-    ap (λ x. x * args′ .n + j) (s .row) ∙ ap (λ x. row′ .given .0 .0 * args′ .n + x) (s .col) in
-    omega (arith, h .next-held, if1′ .taken))
+    let s = order-once i j v (row d) (col d) (value d) (sym (o .is) ∙ said d .is) in
+    let t : i * size d + j ≡ row d * size d + col d = ap (λ x. x * size d + j) (s .row) ∙ ap (λ x. row d * size d + x) (s .col) in
+    omega (arith, h .next-held, c .if1 .taken))
 
 mul-v : tie.Need-mul-v
 mul-v c = omega (arith, inside (c .before))
@@ -68,13 +73,10 @@ add-t10 c = omega (arith, inside (c .before))
 
 returns-3 : tie.Need-returns-3
 returns-3 c =
-    let row′ = c .before .before .row in
-    let args′ = c .before .before .before .before .before .before .args in
-    let pre′ = c .before .before .before .before .before .before .pre in
-    let if1′ = c .if1 in
-    λ st m b d h due.
-    rw (order-bits (omega arith) (row′ .given .0 .1 .1 .0) (said (c .before) .order-stands))
-    (kept-order _ (args′ .n) m (args′ .line .now) st h due _ _ (row′ .given .0 .1 .1 .0) pre′ (said (c .before)) (omega (arith, h .next-held, if1′ .left)))
+    let d = c .before in
+    λ a b k st m h i.
+    rw (order-bits (omega arith) (value d) (said d .order-stands))
+    (kept-order _ _ _ _ _ st h i _ _ (value d) (d .before .before .before .before .before .pre) (said d) (omega (arith, h .next-held, c .if1 .left)))
 
 pub keep-order-spec : {M : Type 1} → statement M
 keep-order-spec =

@@ -73,7 +73,8 @@ col : (c : tie.After-known-told2)
     (size (c .before .before .before .before .before)) (c .before .j .given .0 .0) (second c)
 col c = told (c .before .before .before) .found _ _ (c .before .j .given .1)
 
-both-inside : (c : tie.After-known-told2) → first (c .before .before .before .before .before) + second c ≤ length (line (c .before .before .before .before .before))
+both-inside : (c : tie.After-known-told2)
+    → first (c .before .before .before .before .before) + second c ≤ length (line (c .before .before .before .before .before))
 both-inside c =
     let d = c .before .before .before .before .before in omega (arith, row d .inside, col c .inside, length-drop (first d) (line d))
 
@@ -98,10 +99,12 @@ enum-known-v c = search needs
 enum-told-3 : tie.Need-enum-told-3
 enum-told-3 c = search needs
 
--- what is told of the bytes behind both
+-- the bytes behind both, and what is told of them
+abbrev behind : tie.After-known-told2 → List ℕ
+behind c = let d = c .before .before .before .before .before in drop (second c) (drop (first d) (line d))
+
 told-last : (c : tie.After-signed-number)
-    → SignedOf (SignedIs (drop (second (c .before .before)) (drop (first (c .before .before .before .before .before .before .before)) (line (c .before .before .before .before .before .before .before)))) order)
-    (c .signed-number .result)
+    → SignedOf (SignedIs (behind (c .before .before)) order) (c .signed-number .result)
 told-last c =
     let d = c .before .before .before .before .before .before .before in
     let b = second (c .before .before) in
@@ -123,8 +126,8 @@ returns-4 : tie.Need-returns-4
 returns-4 c =
     let v = c .before .v .given .0 .0 in
     let h : SignedIs _ order v = told-last (c .before .before .before) .found _ (c .before .v .given .1) in
-    rw (order-bits (omega arith) v (h .small))
-    (place-found _ _ v (order-good _ _ _ _ (row (c .before .before .before .before .before .before .before .before .before .before)) _ _ (col (c .before .before .before .before .before)) v h))
+    let d = c .before .before .before .before .before in
+    rw (order-bits (omega arith) v (h .small)) (place-found _ _ v (order-good _ _ _ _ (row (d .before .before .before .before .before)) _ _ (col d) v h))
 
 pub order-line-spec : {M : Type 1} → statement M
 order-line-spec =

@@ -6,11 +6,18 @@ use mathlib.Core.Path.{_≡_, sym, ap, _∙_}
 use native.Mathlib.Numerals.{add-one}
 use lib.ListN.{length, getD, set, length-set}
 use lib.Seq.{paste, paste-zero, paste-suc}
+use Rattle.theory.specs.Limits.{rows}
+use Rattle.sheet.specs.Labels.{width}
 use Rattle.reader.proofs.put_label.Statement.{statement}
 use Rattle.reader.proofs.put_label.Tie as tie
 
 abbrev Inv-loop : tie.InvT-loop
-Inv-loop k line labels₀ at i₀ labels i = (i ≤ length line) × (at + length line ≤ 256) × (length labels₀ ≡ 256) × (length labels ≡ 256) × (labels ≡ paste labels₀ at line i)
+Inv-loop k line labels₀ at i₀ labels i =
+    (labels ≡ paste labels₀ at line i)
+    × (i ≤ length line)
+    × (at + length line ≤ width * rows)
+    × (length labels₀ ≡ width * rows)
+    × (length labels ≡ width * rows)
 
 abbrev μ-loop : tie.MeasureT-loop
 μ-loop k line labels₀ at i₀ labels i = length line - i
@@ -20,11 +27,11 @@ mul-at c = search needs
 
 loop-holds : tie.Need-loop-holds Inv-loop μ-loop
 loop-holds c = (
+  paste-zero (c .args .labels .now) (width * c .args .k) (c .args .line .now),
   omega arith,
   c .pre .0,
   c .pre .1,
   c .pre .1,
-  paste-zero (c .args .labels .now) (8 * c .args .k) (c .args .line .now),
 )
 
 shared-slice-read-labels : tie.Need-shared-slice-read-labels Inv-loop μ-loop
@@ -44,16 +51,16 @@ loop-less c = search needs
 
 loop-again : tie.Need-loop-again Inv-loop μ-loop
 loop-again c =
-    let loop′ = c .before .before .loop in
+    let l = c .before .before .loop in
     let args′ = c .before .before .before .args in
-    let l = loop′ in (
+    let at = width * args′ .k in (
+      ap (λ x. set x (at + l .i) (getD (args′ .line .now) (l .i) 0)) (l .inv .0)
+          ∙ paste-suc (args′ .labels .now) at (args′ .line .now) (l .i) 0 (omega arith) (omega arith)
+          ∙ ap (λ x. paste (args′ .labels .now) at (args′ .line .now) x) (sym (add-one (l .i))),
       omega arith,
-      l .inv .1,
       l .inv .2,
-      simp length-set (l .inv .3),
-      ap (λ x. set x (8 * args′ .k + l .i) (getD (args′ .line .now) (l .i) 0)) (l .inv .4)
-          ∙ paste-suc (args′ .labels .now) (8 * args′ .k) (args′ .line .now) (l .i) 0 (omega arith) (omega arith)
-          ∙ ap (λ x. paste (args′ .labels .now) (8 * args′ .k) (args′ .line .now) x) (sym (add-one (l .i))),
+      l .inv .3,
+      simp length-set (l .inv .4),
     )
 
 returns : tie.Need-returns Inv-loop μ-loop
@@ -61,7 +68,7 @@ returns c =
     let loop′ = c .before .loop in
     let args′ = c .before .before .args in
     let e : loop′ .i ≡ length (args′ .line .now) = omega arith in
-    loop′ .inv .4 ∙ ap (λ x. paste (args′ .labels .now) (8 * args′ .k) (args′ .line .now) x) e
+    loop′ .inv .0 ∙ ap (λ x. paste (args′ .labels .now) (width * args′ .k) (args′ .line .now) x) e
 
 pub put-label-spec : {M : Type 1} → statement M
 put-label-spec =

@@ -2,9 +2,9 @@
 use mathlib.Core.Logic.{inl, inr}
 use borrow.Author.Needs.{needs}
 use native.Mathlib.Omega.{arith}
-use Rattle.reader.specs.Promise.{lent}
-use Rattle.reader.proofs.WalkLaws.{holds-nothing, rows-few, places-few, table-whole, labels-whole}
-use Rattle.reader.proofs.PromiseLaws.{wanted, refuse-length, refuse-long, refuse-line, read-surplus, read-good}
+use Rattle.reader.specs.Promise.{Lent, lent, Wanted}
+use Rattle.reader.proofs.WalkLaws.{holds-nothing, places-few, table-whole, rows-whole, cols-whole}
+use Rattle.reader.proofs.PromiseLaws.{wanted, refuse-length, refuse-long, refuse-line, read-good}
 use Rattle.reader.proofs.read_sheet.Statement.{statement}
 use Rattle.reader.proofs.read_sheet.Tie as tie
 
@@ -17,88 +17,65 @@ returns-2 c = refuse-length _ _ (inr (inl (c .if2 .taken)))
 returns-3 : tie.Need-returns-3
 returns-3 c = refuse-length _ _ (inr (inr (inl (c .if3 .taken))))
 
+-- what is lent is of the wanted length
+abbrev memory : tie.Else3 → Lent
+memory c =
+    let args′ = c .before .before .before .before .before .before .args in lent (args′ .table .now) (args′ .rows .now) (args′ .cols .now)
+
+lengths : (c : tie.Else3) → Wanted (memory c)
+lengths c = wanted _ _ _ (c .before .before .if1 .left) (c .before .if2 .left) (c .if3 .left)
+
 returns-4 : tie.Need-returns-4
-returns-4 c =
-    let args′ = c .before .before .before .before .before .before .before .args in
-    let if1′ = c .before .before .before .if1 in
-    let if2′ = c .before .before .if2 in
-    let if3′ = c .before .if3 in
-    let if4′ = c .if4 in
-    refuse-long _ _ (wanted (args′ .table .now) (args′ .rows .now) (args′ .cols .now) (if1′ .left) (if2′ .left) (if3′ .left))
-    (if4′ .taken)
+returns-4 c = refuse-long _ _ (lengths (c .before)) (c .if4 .taken)
 
 walk-requires : tie.Need-walk-requires
 walk-requires c κs = holds-nothing
 
-returns-5 : tie.Need-returns-5
-returns-5 c =
-    let args′ = c .before .before .before .before .before .before .before .before .before .before .before .before .args in
-    let if1′ = c .before .before .before .before .before .before .before .before .if1 in
-    let if2′ = c .before .before .before .before .before .before .before .if2 in
-    let if3′ = c .before .before .before .before .before .before .if3 in
-    let if4′ = c .before .before .before .before .before .if4 in
-    let walk′ = c .before .walk in
-    let if5′ = c .if5 in
-    refuse-line _ _ (wanted (args′ .table .now) (args′ .rows .now) (args′ .cols .now) (if1′ .left) (if2′ .left) (if3′ .left))
-    (if4′ .left) _ (walk′ .ensures .stopped (if5′ .taken))
+enum-known-walked : tie.Need-enum-known-walked
+enum-known-walked c = search needs
 
-returns-6 : tie.Need-returns-6
-returns-6 c =
-    let args′ = c .before .before .before .before .before .before .before .before .before .before .before .before .before .args in
-    let if1′ = c .before .before .before .before .before .before .before .before .before .if1 in
-    let if2′ = c .before .before .before .before .before .before .before .before .if2 in
-    let if3′ = c .before .before .before .before .before .before .before .if3 in
-    let if4′ = c .before .before .before .before .before .before .if4 in
-    let walk′ = c .before .before .walk in
-    let if5′ = c .before .if5 in
-    let if6′ = c .if6 in
-    read-surplus (args′ .sheet .now) (lent (args′ .table .now) (args′ .rows .now) (args′ .cols .now)) (wanted (args′ .table .now)
-    (args′ .rows .now) (args′ .cols .now) (if1′ .left) (if2′ .left) (if3′ .left)) (if4′ .left) (walk′ .result) _ _ _ (walk′ .ensures)
-    (if5′ .left) (if6′ .taken)
+enum-known-walked-2 : tie.Need-enum-known-walked-2
+enum-known-walked-2 c = search needs
 
 mul-copy-entries : tie.Need-mul-copy-entries
-mul-copy-entries c =
-    let walk′ = c .before .before .before .walk in
-    let if5′ = c .before .before .if5 in
-    omega (arith, places-few (walk′ .ensures) (if5′ .left))
+mul-copy-entries c = omega (arith, places-few (c .before .before .before .before .walk .ensures .ended _ (c .before .before .walked2 .given .1)))
+
+-- where the sheet was found to be good, the lengths
+lent-well : (c : tie.After-known-told2) → Wanted (memory (c .before .before .before .before .before .before .before .before))
+lent-well c = lengths (c .before .before .before .before .before .before .before .before)
 
 copy-entries-requires : tie.Need-copy-entries-requires
 copy-entries-requires c κs =
-    let walk′ = c .before .before .before .before .walk in
-    let if5′ = c .before .before .before .if5 in
-    let if1′ = c .before .before .before .before .before .before .before .before .before .before .before .if1 in
-    let few = places-few (walk′ .ensures) (if5′ .left) in
-    (few, omega (arith, few, if1′ .left), table-whole (walk′ .ensures) (if5′ .left))
+    let d = c .before .before in
+    let e = d .before .before .before .walk .ensures .ended _ (d .before .walked2 .given .1) in
+    (places-few e, omega (arith, places-few e, lent-well d .table-length), table-whole e)
 
 mul-copy-bytes : tie.Need-mul-copy-bytes
 mul-copy-bytes c =
-    let walk′ = c .before .before .before .before .before .before .before .walk in
-    let if5′ = c .before .before .before .before .before .before .if5 in
-    omega (arith, rows-few (walk′ .ensures) (if5′ .left))
+    let d = c .before .before .before .before .before in
+    let e = d .before .before .before .walk .ensures .ended _ (d .before .walked2 .given .1) in omega (arith, e .few)
 
 copy-bytes-requires : tie.Need-copy-bytes-requires
 copy-bytes-requires c κs =
-    let walk′ = c .before .before .before .before .before .before .before .before .walk in
-    let if5′ = c .before .before .before .before .before .before .before .if5 in
-    let if2′ = c .before .before .before .before .before .before .before .before .before .before .before .before .before .before .if2 in
-    let few = rows-few (walk′ .ensures) (if5′ .left) in
-    let whole = labels-whole (walk′ .ensures) (if5′ .left) in
-    (omega (arith, few), omega (arith, few, if2′ .left), omega (arith, whole .0, whole .1))
+    let d = c .before .before .before .before .before .before in
+    let e = d .before .before .before .walk .ensures .ended _ (d .before .walked2 .given .1) in
+    (omega (arith, e .few), omega (arith, e .few, lent-well d .rows-length), rows-whole e)
 
 mul-copy-bytes-2 : tie.Need-mul-copy-bytes-2
 mul-copy-bytes-2 c =
-    let walk′ = c .before .before .before .before .before .before .before .before .before .before .before .before .walk in
-    let if5′ = c .before .before .before .before .before .before .before .before .before .before .before .if5 in
-    omega (arith, rows-few (walk′ .ensures) (if5′ .left))
+    let d = c .before .before .before .before .before .before .before .before .before .before in
+    let e = d .before .before .before .walk .ensures .ended _ (d .before .walked2 .given .1) in omega (arith, e .few)
 
 copy-bytes-requires-2 : tie.Need-copy-bytes-requires-2
 copy-bytes-requires-2 c κs =
-    let walk′ = c .before .before .before .before .before .before .before .before .before .before .before .before .before .walk in
-    let if5′ = c .before .before .before .before .before .before .before .before .before .before .before .before .if5 in
-    let if3′ = c .before .before .before .before .before .before .before .before .before .before .before .before .before .before .before .before .before .before .if3 in
-    let few = rows-few (walk′ .ensures) (if5′ .left) in
-    let whole = labels-whole (walk′ .ensures) (if5′ .left) in
-    (omega (arith, few), omega (arith, few, if3′ .left), omega (arith, whole .0, whole .1))
+    let d = c .before .before .before .before .before .before .before .before .before .before .before in
+    let e = d .before .before .before .walk .ensures .ended _ (d .before .walked2 .given .1) in
+    (omega (arith, e .few), omega (arith, e .few, lent-well d .cols-length), cols-whole e)
+
+returns-5 : tie.Need-returns-5
+returns-5 c =
+    let d = c .before .before .before .before .before .before .before in
+    refuse-line _ _ (lengths (d .before)) (d .if4 .left) _ (c .before .before .before .walk .ensures .stopped _ (c .before .walked .given .1))
 
 same-length : tie.Need-same-length
 same-length c = search needs
@@ -109,22 +86,14 @@ same-length-2 c = search needs
 same-length-3 : tie.Need-same-length-3
 same-length-3 c = search needs
 
-returns-7 : tie.Need-returns-7
-returns-7 c =
-    let args′ = c .before .before .before .before .before .before .before .before .before .before .before .before .before .before .before .before .before .before .before .before .before .before .before .before .before .before .before .args in
-    let if1′ = c .before .before .before .before .before .before .before .before .before .before .before .before .before .before .before .before .before .before .before .before .before .before .before .if1 in
-    let if2′ = c .before .before .before .before .before .before .before .before .before .before .before .before .before .before .before .before .before .before .before .before .before .before .if2 in
-    let if3′ = c .before .before .before .before .before .before .before .before .before .before .before .before .before .before .before .before .before .before .before .before .before .if3 in
-    let if4′ = c .before .before .before .before .before .before .before .before .before .before .before .before .before .before .before .before .before .before .before .before .if4 in
-    let walk′ = c .before .before .before .before .before .before .before .before .before .before .before .before .before .before .before .before .walk in
-    let if5′ = c .before .before .before .before .before .before .before .before .before .before .before .before .before .before .before .if5 in
-    let if6′ = c .before .before .before .before .before .before .before .before .before .before .before .before .before .before .if6 in
-    let copy-entries′ = c .before .before .before .before .before .before .before .before .before .before .before .copy-entries in
-    let copy-bytes′ = c .before .before .before .before .before .before .before .copy-bytes in
-    let copy-bytes2′ = c .before .before .copy-bytes2 in
-    read-good (args′ .sheet .now) (lent (args′ .table .now) (args′ .rows .now) (args′ .cols .now)) (wanted (args′ .table .now)
-    (args′ .rows .now) (args′ .cols .now) (if1′ .left) (if2′ .left) (if3′ .left)) (if4′ .left) (walk′ .result) _ _ _ (walk′ .ensures)
-    (if5′ .left) (if6′ .left) _ _ _ (copy-entries′ .ensures) (copy-bytes′ .ensures) (copy-bytes2′ .ensures)
+returns-6 : tie.Need-returns-6
+returns-6 c =
+    let d = c .before .before .before .before .before .before .before .before .before .before .before .before .before .before in
+    let e = d .before .before .before .walk .ensures .ended _ (d .before .walked2 .given .1) in
+    let b = c .before .before .copy-bytes2 .ensures in
+    let t = c .before .before .before .before .before .before .before .before .before .before .before .copy-entries .ensures in
+    let a = c .before .before .before .before .before .before .before .copy-bytes .ensures in
+    read-good e _ (lent-well d) (d .before .before .before .before .before .before .before .if4 .left) _ _ _ t a b
 
 pub read-sheet-spec : {M : Type 1} → statement M
 read-sheet-spec =
@@ -135,15 +104,16 @@ read-sheet-spec =
     returns-3
     returns-4
     walk-requires
-    returns-5
-    returns-6
+    enum-known-walked
+    enum-known-walked-2
     mul-copy-entries
     copy-entries-requires
     mul-copy-bytes
     copy-bytes-requires
     mul-copy-bytes-2
     copy-bytes-requires-2
+    returns-5
     same-length
     same-length-2
     same-length-3
-    returns-7)
+    returns-6)

@@ -4,7 +4,6 @@ use mathlib.Core.Bool.{true, false}
 use mathlib.Core.List.{[], _∷_}
 use Prim.Native.Nat.{ℕ, zero, suc, _+_, _*_, _/_, _%_, _<_, _≤_}
 use native.Mathlib.Omega.{arith}
-use native.Mathlib.Decide.{decLt}
 use lib.Dec.{T}
 use lib.IntN.{ℤ, pos, negsuc, natAbs, _-ℤ_, +ℤ-idl}
 use lib.ListN.{length, length-append}
@@ -15,29 +14,13 @@ use mir.Val.{SFits, Fits, ofZ, toZ}
 use Rattle.theory.proofs.Signed.{signed as signs}
 use Rattle.sheet.specs.Text.{text, signed}
 use Rattle.sheet.proofs.Numbers.{text-small, text-large, by-tens}
+pub use Rattle.sheet.proofs.Numbers.{text-within}
 
 -- a number's length: never more than the number and one, and one digit more for each ten times
 pub text-length : (n : ℕ) → length (text n) ≤ n + 1
 text-length =
     by-tens (λ n. length (text n) ≤ n + 1) (λ n h. rw (text-small n h) (omega arith))
     (λ n h ih. rw (text-large n h) (omega (arith, length-append (text (n / 10)) ((48 + n % 10) ∷ []))))
-
-text-step : (b k : ℕ) → 1 ≤ k → ((m : ℕ) → m < b → length (text m) ≤ k) → (n : ℕ) → n < b * 10 → length (text n) ≤ k + 1
-text-step b k one f n h = go (decLt n 10)
-  where
-    go : Dec (n < 10) → length (text n) ≤ k + 1
-    go (yes g) = rw (text-small n g) (omega arith)
-    go (no g) =
-        rw (text-large n (omega arith)) (omega (arith, length-append (text (n / 10)) ((48 + n % 10) ∷ []), f (n / 10) (omega arith)))
-
--- a number below a power of ten has no more digits than the power
-abbrev pub tens : ℕ → ℕ
-tens zero = 1
-tens (suc k) = tens k * 10
-
-pub text-within : (k n : ℕ) → n < tens (suc k) → length (text n) ≤ suc k
-text-within zero n h = rw (text-small n h) (omega arith)
-text-within (suc k) n h = omega (arith, text-step (tens (suc k)) (suc k) (omega arith) (text-within k) n h)
 
 -- a number's two ways: ten and more, or one digit
 pub digits-more : (v : ℕ) → 10 ≤ v → length (text v) ≡ length (text (v / 10)) + 1

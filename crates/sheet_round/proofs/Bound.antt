@@ -10,11 +10,12 @@ use lib.ListN.{length, length-append}
 use Rattle.theory.specs.Limits.{rows, order, sheet}
 use Rattle.theory.specs.Table.{Present, Order, Entries}
 use Rattle.sheet.specs.Text.{text, ended, rowsHead, colsHead, ordersHead}
-use Rattle.sheet.specs.Sheet.{Labelled, Stands, labelLines, isAbsent, presentCount, orderLine, orderLines, labelSection, orderSection, sheetOf}
-use Rattle.sheet.proofs.Orders.{absent-not, row-inside, col-inside, entries-right}
+use Rattle.sheet.specs.Sheet.{Labelled, Stands, labelLines, isAbsent, presentCount, orderLines, labelSection, sheetOf}
+use Rattle.writer.specs.Parts.{orderBytes, entryBytes, orderSection}
+use Rattle.sheet.proofs.Orders.{sheet-bytes, count-le, absent-not, row-inside, col-inside, entries-right}
 use Rattle.sheet.proofs.Slots.{Short, short-tail, labels-short}
 use Rattle.lettering.proofs.TextLaws.{text-within}
-use Rattle.writer.proofs.OrderLaws.{signed-short, order-text-length, line-absent, line-present, count-le}
+use Rattle.writer.proofs.OrderLaws.{signed-short, order-text-length, line-absent, line-present, bytes-cons}
 
 -- a label's line has at most 9 bytes
 lines-short : (ls : List (List ℕ)) → Short ls → length (labelLines ls) ≤ 9 * length ls
@@ -30,7 +31,7 @@ lines-short (l ∷ ls) s =
     )
 
 -- an order's line has at most 11 bytes: two numbers up to 32, an order and three bytes between and behind them
-line-short : (n p : ℕ) (v : ℤ) (t : Bool) → isAbsent v ≡ t → n ≤ rows → p < n * n → (Present v → Order order v) → length (orderLine n p v) ≤ 11
+line-short : (n p : ℕ) (v : ℤ) (t : Bool) → isAbsent v ≡ t → n ≤ rows → p < n * n → (Present v → Order order v) → length (entryBytes n p v) ≤ 11
 line-short n p v true e h g o = omega (arith, ap length (line-absent n p v e))
 line-short n p v false e h g o =
     omega (
@@ -42,15 +43,16 @@ line-short n p v false e h g o =
       signed-short v (o (absent-not v e)),
     )
 
-orders-short : (n p : ℕ) (e : List ℤ) → n ≤ rows → p + length e ≤ n * n → Entries order e → length (orderLines n p e) ≤ 11 * length e
-unfolding orderLines
+orders-short : (n p : ℕ) (e : List ℤ) → n ≤ rows → p + length e ≤ n * n → Entries order e → length (orderBytes n p e) ≤ 11 * length e
+unfolding labelLines orderLines
 orders-short n p [] h g s = omega arith
 orders-short n p (v ∷ e) h g s =
     omega (
       arith,
+      ap length (bytes-cons n p v e),
       orders-short n (suc p) e h (omega arith) (entries-right (v ∷ []) e s),
       line-short n p v (isAbsent v) refl h (omega arith) (s 0 (omega arith)),
-      length-append (orderLine n p v) (orderLines n (suc p) e),
+      length-append (entryBytes n p v) (orderBytes n (suc p) e),
     )
 
 heading-short : (h : List ℕ) (c : ℕ) → length (ended (h ++ text c)) ≡ length h + length (text c) + 1
@@ -63,11 +65,12 @@ sheet-fits t w =
     let q : n * n ≤ rows * rows = mul-le-mul {n₁ = n} {m₁ = n} {n₂ = rows} {m₂ = rows} (w .few) (w .few) in
     omega (
       arith,
+      ap length (sheet-bytes t),
       length-append (labelSection rowsHead (t .row-labels)) (labelSection colsHead (t .col-labels) ++ orderSection n e),
       length-append (ended (rowsHead ++ text n)) (labelLines (t .row-labels)),
       length-append (labelSection colsHead (t .col-labels)) (orderSection n e),
       length-append (ended (colsHead ++ text (length (t .col-labels)))) (labelLines (t .col-labels)),
-      length-append (ended (ordersHead ++ text (presentCount e))) (orderLines n 0 e),
+      length-append (ended (ordersHead ++ text (presentCount e))) (orderBytes n 0 e),
       heading-short rowsHead n,
       heading-short colsHead (length (t .col-labels)),
       heading-short ordersHead (presentCount e),

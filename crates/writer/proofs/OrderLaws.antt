@@ -7,7 +7,7 @@ use native.Mathlib.Omega.{arith}
 use native.Mathlib.Numerals.{add-one}
 use lib.IntN.{ℤ, pos, negsuc, natAbs}
 use native.Mathlib.Nat.{mod-lt, mul-le-mul}
-use Rattle.writer.specs.Parts.{Tested, EntryTested}
+use Rattle.writer.specs.Parts.{Tested, EntryTested, orderBytes, entryBytes}
 use mir.Syntax.{w16}
 use mir.Val.{SFits, ofZ}
 use borrow.Author.Tests.{ne-eqb}
@@ -18,9 +18,9 @@ use Rattle.theory.specs.Limits.{order}
 use Rattle.theory.specs.Table.{Order}
 use Rattle.theory.proofs.Signed.{signed as signs}
 use Rattle.sheet.specs.Text.{text, signed, ended, blank}
-use Rattle.sheet.specs.Sheet.{isAbsent, presentCount, orderText, orderLine, orderLines}
+use Rattle.sheet.specs.Sheet.{isAbsent, presentCount, orderText, labelLines, orderLines}
 use Rattle.lettering.proofs.TextLaws.{text-within}
-use Rattle.sheet.proofs.Orders.{lines-append, count-append, row-inside}
+use Rattle.sheet.proofs.Orders.{label-lines-append, lines-append, count-append, row-inside}
 
 pub signed-short : (v : ℤ) → Order order v → length (signed v) ≤ 4
 signed-short (pos n) o = omega (arith, text-within 2 n (omega (arith, signs, o .high)))
@@ -36,23 +36,39 @@ order-text-length i j v =
       length-append (text (j + 1)) (blank ∷ signed v),
     )
 
-pub line-absent : (n p : ℕ) (v : ℤ) → isAbsent v ≡ true → orderLine n p v ≡ []
+pub line-absent : (n p : ℕ) (v : ℤ) → isAbsent v ≡ true → entryBytes n p v ≡ []
 line-absent n p v e = rw e
 
-pub line-present : (n p : ℕ) (v : ℤ) → isAbsent v ≡ false → orderLine n p v ≡ ended (orderText (p / n) (p % n) v)
+pub line-present : (n p : ℕ) (v : ℤ) → isAbsent v ≡ false → entryBytes n p v ≡ ended (orderText (p / n) (p % n) v)
 line-present n p v e = rw e
+
+-- the bytes of entries in two parts, and of one entry and others
+pub bytes-append : (n p : ℕ) (a b : List ℤ) → orderBytes n p (a ++ b) ≡ orderBytes n p a ++ orderBytes n (p + length a) b
+bytes-append n p a b = ap labelLines (lines-append n p a b) ∙ label-lines-append (orderLines n p a) (orderLines n (p + length a) b)
+
+bytes-by : (t : Bool) (l : List ℕ) (ls : List (List ℕ)) → labelLines (cond t ls (l ∷ ls)) ≡ cond t [] (ended l) ++ labelLines ls
+unfolding labelLines
+bytes-by true l ls = refl
+bytes-by false l ls = refl
+
+pub bytes-cons : (n p : ℕ) (v : ℤ) (e : List ℤ) → orderBytes n p (v ∷ e) ≡ entryBytes n p v ++ orderBytes n (suc p) e
+unfolding orderLines
+bytes-cons n p v e = bytes-by (isAbsent v) (orderText (p / n) (p % n) v) (orderLines n (suc p) e)
+
+pub bytes-one : (n p : ℕ) (v : ℤ) → orderBytes n p (v ∷ []) ≡ entryBytes n p v
+unfolding labelLines orderLines
+bytes-one n p v = bytes-by (isAbsent v) (orderText (p / n) (p % n) v) [] ∙ append-nil (entryBytes n p v)
 
 -- one entry more
 module _ (t : List ℤ) (p : ℕ) (h : p < length t) where
-  pub order-lines-next : (n : ℕ) → orderLines n 0 (take (p + 1) t) ≡ orderLines n 0 (take p t) ++ orderLine n p (getD t p (pos 0))
-  unfolding orderLines
+  pub order-lines-next : (n : ℕ) → orderBytes n 0 (take (p + 1) t) ≡ orderBytes n 0 (take p t) ++ entryBytes n p (getD t p (pos 0))
   order-lines-next n =
       let q : 0 + length (take p t) ≡ p = omega (arith, length-take-le p t (omega arith)) in
-      ap (λ i. orderLines n 0 (take i t)) (add-one p)
-      ∙ ap (λ x. orderLines n 0 x) (take-suc t p (pos 0) h)
-      ∙ lines-append n 0 (take p t) (getD t p (pos 0) ∷ [])
-      ∙ ap (λ i. orderLines n 0 (take p t) ++ orderLines n i (getD t p (pos 0) ∷ [])) q
-      ∙ ap (λ x. orderLines n 0 (take p t) ++ x) (append-nil (orderLine n p (getD t p (pos 0))))
+      ap (λ i. orderBytes n 0 (take i t)) (add-one p)
+      ∙ ap (λ x. orderBytes n 0 x) (take-suc t p (pos 0) h)
+      ∙ bytes-append n 0 (take p t) (getD t p (pos 0) ∷ [])
+      ∙ ap (λ i. orderBytes n 0 (take p t) ++ orderBytes n i (getD t p (pos 0) ∷ [])) q
+      ∙ ap (λ x. orderBytes n 0 (take p t) ++ x) (bytes-one n p (getD t p (pos 0)))
 
   pub count-next : presentCount (take (p + 1) t) ≡ presentCount (take p t) + cond (isAbsent (getD t p (pos 0))) 0 1
   unfolding presentCount
@@ -61,11 +77,11 @@ module _ (t : List ℤ) (p : ℕ) (h : p < length t) where
       ∙ ap presentCount (take-suc t p (pos 0) h) ∙ count-append (take p t) (getD t p (pos 0) ∷ [])
 
 -- the lines of a front are no longer than those of the whole
-pub front-lines : (n k : ℕ) (t : List ℤ) → length (orderLines n 0 (take k t)) ≤ length (orderLines n 0 t)
+pub front-lines : (n k : ℕ) (t : List ℤ) → length (orderBytes n 0 (take k t)) ≤ length (orderBytes n 0 t)
 front-lines n k t =
-    let e : orderLines n 0 t ≡ orderLines n 0 (take k t) ++ orderLines n (0 + length (take k t)) (drop k t) =
-    ap (λ x. orderLines n 0 x) (sym (take-append-drop k t)) ∙ lines-append n 0 (take k t) (drop k t) in
-    omega (arith, ap length e, length-append (orderLines n 0 (take k t)) (orderLines n (0 + length (take k t)) (drop k t)))
+    let e : orderBytes n 0 t ≡ orderBytes n 0 (take k t) ++ orderBytes n (0 + length (take k t)) (drop k t) =
+    ap (λ x. orderBytes n 0 x) (sym (take-append-drop k t)) ∙ bytes-append n 0 (take k t) (drop k t) in
+    omega (arith, ap length e, length-append (orderBytes n 0 (take k t)) (orderBytes n (0 + length (take k t)) (drop k t)))
 
 -- an order without its sign
 pub size-low : (v : ℤ) → Order order v → natAbs v ≤ order
@@ -112,18 +128,18 @@ square-few n h = mul-le-mul {n₁ = n} {m₁ = n} {n₂ = 32} {m₂ = 32} h h
 
 -- the length of the line of a tested entry that is present
 pub present-length : (n p : ℕ) (v : ℤ) → isAbsent v ≡ false
-    → length (orderLine n p v) ≡ length (text (p / n + 1)) + length (text (p % n + 1)) + length (signed v) + 3
+    → length (entryBytes n p v) ≡ length (text (p / n + 1)) + length (text (p % n + 1)) + length (signed v) + 3
 present-length n p v e = ap length (line-present n p v e) ∙ order-text-length (p / n) (p % n) v
 
 -- the lines with one entry more fit where all do
-pub next-room : (n : ℕ) (t : List ℤ) (p : ℕ) (o : List ℕ) → p < length t → length (orderLines n 0 t) ≤ length o
-    → length (orderLines n 0 (take p t)) + length (orderLine n p (getD t p (pos 0))) ≤ length o
+pub next-room : (n : ℕ) (t : List ℤ) (p : ℕ) (o : List ℕ) → p < length t → length (orderBytes n 0 t) ≤ length o
+    → length (orderBytes n 0 (take p t)) + length (entryBytes n p (getD t p (pos 0))) ≤ length o
 next-room n t p o h g =
     omega (
       arith,
       front-lines n (p + 1) t,
       ap length (order-lines-next t p h n),
-      length-append (orderLines n 0 (take p t)) (orderLine n p (getD t p (pos 0))),
+      length-append (orderBytes n 0 (take p t)) (entryBytes n p (getD t p (pos 0))),
     )
 
 -- what is counted at an absent and at a present place
@@ -132,12 +148,3 @@ count-absent-next t p h e = count-next t p h ∙ ap (λ b. presentCount (take p 
 
 pub count-present-next : (t : List ℤ) (p : ℕ) → p < length t → isAbsent (getD t p (pos 0)) ≡ false → presentCount (take (p + 1) t) ≡ presentCount (take p t) + 1
 count-present-next t p h e = count-next t p h ∙ ap (λ b. presentCount (take p t) + cond b 0 1) e
-
-pub count-le : (e : List ℤ) → presentCount e ≤ length e
-unfolding presentCount
-count-le [] = omega arith
-count-le (v ∷ e) = go (isAbsent v) (count-le e)
-  where
-    go : (b : Bool) → presentCount e ≤ length e → cond b (presentCount e) (suc (presentCount e)) ≤ suc (length e)
-    go true h = omega arith
-    go false h = omega arith

@@ -11,8 +11,9 @@ use Rattle.orders.specs.Refusals.{gives, refuses}
 use Rattle.handed.specs.Conditions.{OutOfSize}
 use Rattle.handed.proofs.Basics.{sized}
 use Rattle.sheet.specs.Text.{text, ended, rowsHead, colsHead, ordersHead, over}
-use Rattle.sheet.specs.Sheet.{Labelled, labelLines, presentCount, orderLines, orderSection, sheetOf}
-use Rattle.writer.specs.Parts.{labelsOf, BufferStands, Tested, restText, sheetText}
+use Rattle.sheet.specs.Sheet.{Labelled, labelLines, presentCount, sheetOf}
+use Rattle.writer.specs.Parts.{labelsOf, BufferStands, Tested, restText, sheetText, orderBytes, orderSection}
+use Rattle.sheet.proofs.Orders.{sheet-bytes}
 use Rattle.lettering.specs.Putting.{Puts}
 use Rattle.writer.specs.Promise.{model, Wanted, Labelling, WritePromise, wrote}
 use Rattle.writer.proofs.Refusing.{refuse-room, all-clear}
@@ -25,7 +26,7 @@ head-length h n = length-append (h ++ text n) (10 ∷ []) ∙ omega (arith, leng
 pub sheet-text-length : (n : ℕ) (t : List ℤ) (r c : List ℕ)
     → length (sheetText n t r c)
     ≡ length (text n) + 6 + length (labelLines (labelsOf n r)) + (length (text n) + 6 + length (labelLines (labelsOf n c)))
-    + (length (text (presentCount t)) + 8 + length (orderLines n 0 t))
+    + (length (text (presentCount t)) + 8 + length (orderBytes n 0 t))
 sheet-text-length n t r c =
     length-append (ended (rowsHead ++ text n) ++ labelLines (labelsOf n r)) (restText n t c)
     ∙ omega (
@@ -33,7 +34,7 @@ sheet-text-length n t r c =
       length-append (ended (rowsHead ++ text n)) (labelLines (labelsOf n r)),
       length-append (ended (colsHead ++ text n) ++ labelLines (labelsOf n c)) (orderSection n t),
       length-append (ended (colsHead ++ text n)) (labelLines (labelsOf n c)),
-      length-append (ended (ordersHead ++ text (presentCount t))) (orderLines n 0 t),
+      length-append (ended (ordersHead ++ text (presentCount t))) (orderBytes n 0 t),
       head-length rowsHead n,
       head-length colsHead n,
       head-length ordersHead (presentCount t),
@@ -52,6 +53,7 @@ sheet-text n t r c =
     ∙ ap
     (λ x. (ended (rowsHead ++ text (length (labelsOf n r))) ++ labelLines (labelsOf n r)) ++ ((ended (colsHead ++ text (length (labelsOf n c))) ++ labelLines (labelsOf n c)) ++ orderSection x t))
     (sym (labels-count n r))
+    ∙ sym (sheet-bytes (labelled n t r c))
 
 -- the tests, one after the other
 module _ (n : ℕ) (t : List ℤ) (r c : List ℕ) where

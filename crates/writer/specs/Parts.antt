@@ -3,14 +3,14 @@ use mathlib.Core.Path.{_≡_}
 use mathlib.Core.Logic.{_≢_}
 use mathlib.Core.Bool.{Bool, true, false, cond}
 use mathlib.Core.List.{List, [], _∷_, _++_}
-use Prim.Native.Nat.{ℕ, zero, suc, _*_, _≤_, _<_}
+use Prim.Native.Nat.{ℕ, zero, suc, _+_, _*_, _/_, _%_, _≤_, _<_}
 use lib.Dec.{eqb}
 use lib.IntN.{ℤ}
 use lib.ListN.{length, getD, take, drop}
 use Rattle.theory.specs.Limits.{rows, order}
 use Rattle.theory.specs.Table.{Present, Order, Entries}
-use Rattle.sheet.specs.Text.{text, ended, rowsHead, colsHead}
-use Rattle.sheet.specs.Sheet.{labelLines, orderSection}
+use Rattle.sheet.specs.Text.{text, ended, rowsHead, colsHead, ordersHead}
+use Rattle.sheet.specs.Sheet.{isAbsent, presentCount, orderText, labelLines, orderLines}
 use Rattle.sheet.specs.Labels.{width, Form, slot}
 use Rattle.writer.specs.Promise.{WrongIn}
 
@@ -53,7 +53,17 @@ pub record EntryTested (n p : ℕ) (v : ℤ) : Type 0 where
   pub place : p < n * n
   pub stands : Present v → Order order v
 
+-- the bytes of the order lines from place p on, and those of one entry, none where it is absent
+abbrev pub orderBytes : ℕ → ℕ → List ℤ → List ℕ
+orderBytes n p e = labelLines (orderLines n p e)
+
+abbrev pub entryBytes : ℕ → ℕ → ℤ → List ℕ
+entryBytes n p v = cond (isAbsent v) [] (ended (orderText (p / n) (p % n) v))
+
 -- the sheet of what is handed, as it is written section by section
+abbrev pub orderSection : ℕ → List ℤ → List ℕ
+orderSection n t = ended (ordersHead ++ text (presentCount t)) ++ orderBytes n 0 t
+
 abbrev pub restText : ℕ → List ℤ → List ℕ → List ℕ
 restText n t c = (ended (colsHead ++ text n) ++ labelLines (labelsOf n c)) ++ orderSection n t
 

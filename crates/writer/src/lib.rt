@@ -7,9 +7,10 @@ ghost use Rattle.theory.specs.Limits.{order, rows as limit};
 ghost use Rattle.sheet.specs.Labels.{width};
 ghost use Rattle.theory.specs.Table.{Order};
 ghost use Rattle.sheet.specs.Text.{text, signed, ended, blank};
-ghost use Rattle.sheet.specs.Sheet.{presentCount, labelLines, orderLine, orderLines, orderSection};
+ghost use Rattle.sheet.specs.Sheet.{presentCount, labelLines};
 ghost use Rattle.lettering.specs.Putting.{Puts};
 ghost use Rattle.writer.specs.Parts.{labelOf, labelsOf, SlotStands, LabelsTold, Tested, EntryTested, restText, sheetText};
+ghost use Rattle.writer.specs.Parts.{orderBytes, entryBytes, orderSection};
 ghost use Rattle.writer.specs.Promise.{WritePromise, model, says};
 use lettering::digits;
 use lettering::magnitude;
@@ -163,7 +164,7 @@ fn value_length(v: i16) -> usize
 // The bytes of the line of place p. Rules out every other number.
 fn order_length(n: usize, p: usize, v: i16) -> usize
     requires { ⌜ EntryTested n p v ⌝ }
-    ensures { λ r. ⌜ (r ≡ length (orderLine n p v)) × (r ≤ 16) ⌝ }
+    ensures { λ r. ⌜ (r ≡ length (entryBytes n p v)) × (r ≤ 16) ⌝ }
 {
     if v == ABSENT {
         return 0;
@@ -184,8 +185,8 @@ fn put_order_end(n: usize, p: usize, v: i16, out: &mut [u8]) -> usize
 // The line of place p in the room; none where the place is absent. Rules out a row counted from 0, and a line for an absent
 // place.
 fn put_order(n: usize, p: usize, v: i16, out: &mut [u8]) -> usize
-    requires { ⌜ (EntryTested n p v) × (length (orderLine n p v) ≤ length (now out)) ⌝ }
-    ensures { λ r. ⌜ Puts (orderLine n p v) (now (out .entry)) (now (out .exit)) r ⌝ }
+    requires { ⌜ (EntryTested n p v) × (length (entryBytes n p v) ≤ length (now out)) ⌝ }
+    ensures { λ r. ⌜ Puts (entryBytes n p v) (now (out .entry)) (now (out .exit)) r ⌝ }
 {
     if v == ABSENT {
         return 0;
@@ -198,7 +199,7 @@ fn put_order(n: usize, p: usize, v: i16, out: &mut [u8]) -> usize
 // The bytes of the order lines. Rules out every other number.
 fn orders_length(n: usize, table: &[i16]) -> usize
     requires { ⌜ Tested n (now table) ⌝ }
-    ensures { λ r. ⌜ (r ≡ length (orderLines n 0 (now (table .entry)))) × (r ≤ 16384) ⌝ }
+    ensures { λ r. ⌜ (r ≡ length (orderBytes n 0 (now (table .entry)))) × (r ≤ 16384) ⌝ }
 {
     let mut sum: usize = 0;
     let mut p = 0;
@@ -211,8 +212,8 @@ fn orders_length(n: usize, table: &[i16]) -> usize
 
 // The order lines in the room, row before column. Rules out a present place left out, and lines in another order.
 fn put_orders(n: usize, table: &[i16], out: &mut [u8]) -> usize
-    requires { ⌜ (Tested n (now table)) × (length (orderLines n 0 (now table)) ≤ length (now out)) ⌝ }
-    ensures { λ r. ⌜ Puts (orderLines n 0 (now (table .entry))) (now (out .entry)) (now (out .exit)) r ⌝ }
+    requires { ⌜ (Tested n (now table)) × (length (orderBytes n 0 (now table)) ≤ length (now out)) ⌝ }
+    ensures { λ r. ⌜ Puts (orderBytes n 0 (now (table .entry))) (now (out .entry)) (now (out .exit)) r ⌝ }
 {
     let mut at: usize = 0;
     let mut p = 0;

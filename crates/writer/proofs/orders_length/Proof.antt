@@ -9,19 +9,19 @@ use Rattle.orders.proofs.Entries.{back}
 use mir.Syntax.{w16}
 use lib.IntN.{pos}
 use lib.Seq.{take-length}
-use Rattle.sheet.specs.Sheet.{orderLine, orderLines}
-use Rattle.writer.specs.Parts.{Tested}
+use Rattle.sheet.specs.Sheet.{labelLines, orderLines}
+use Rattle.writer.specs.Parts.{Tested, orderBytes, entryBytes}
 use Rattle.writer.proofs.orders_length.Statement.{statement}
 use Rattle.writer.proofs.orders_length.Tie as tie
 
 abbrev Inv-loop : tie.InvT-loop
-Inv-loop n table sum₀ p₀ sum p = (p ≤ length table) × Tested n table × (sum ≡ length (orderLines n 0 (take p table))) × (sum ≤ 16 * p)
+Inv-loop n table sum₀ p₀ sum p = (p ≤ length table) × Tested n table × (sum ≡ length (orderBytes n 0 (take p table))) × (sum ≤ 16 * p)
 
 abbrev μ-loop : tie.MeasureT-loop
 μ-loop n table sum₀ p₀ sum p = length table - p
 
 loop-holds : tie.Need-loop-holds Inv-loop μ-loop
-unfolding orderLines
+unfolding labelLines orderLines
 loop-holds c = (omega arith, (c .pre), refl, omega arith)
 
 mul-order-length : tie.Need-mul-order-length Inv-loop μ-loop
@@ -77,7 +77,7 @@ loop-again c = let loop′ = c .before .before .before .loop in
         l .inv .2,
         ap length (order-lines-next t (l .p) (omega arith) (args′ .n)),
         length-append
-            (orderLines (args′ .n) 0 (take (l .p) t)) (orderLine (args′ .n) (l .p) (getD t (l .p) (pos 0))),
+            (orderBytes (args′ .n) 0 (take (l .p) t)) (entryBytes (args′ .n) (l .p) (getD t (l .p) (pos 0))),
       ),
       omega (
         arith,
@@ -93,7 +93,7 @@ returns c = let loop′ = c .before .loop in
     let l = loop′ in
     let t = args′ .table .now in
     let e : l .p ≡ length t = omega arith in (
-      l .inv .2 ∙ ap (λ x. length (orderLines (args′ .n) 0 x)) (ap (λ i. take i t) e ∙ take-length t),
+      l .inv .2 ∙ ap (λ x. length (orderBytes (args′ .n) 0 x)) (ap (λ i. take i t) e ∙ take-length t),
       omega (arith, l .inv .3, square-few (args′ .n) (l .inv .1 .few), l .inv .1 .square),
     )
 

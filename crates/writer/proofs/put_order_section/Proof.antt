@@ -6,7 +6,8 @@ use mathlib.Core.Path.{refl, ap}
 use Rattle.lettering.proofs.PutLaws.{puts-inside, puts-tail, puts-same, left-room, sum-fits, part-room, first-room}
 use mathlib.Core.List.{_++_}
 use Rattle.sheet.specs.Text.{text, ended, ordersHead}
-use Rattle.sheet.specs.Sheet.{presentCount, orderLines}
+use Rattle.sheet.specs.Sheet.{presentCount}
+use Rattle.writer.specs.Parts.{orderBytes}
 use Rattle.writer.proofs.put_order_section.Statement.{statement}
 use Rattle.writer.proofs.put_order_section.Tie as tie
 
@@ -20,7 +21,7 @@ put-heading-requires : tie.Need-put-heading-requires
 put-heading-requires c κs = let present-count′ = c .before .before .present-count in
     let args′ = c .before .before .before .before .args in
     let pre′ = c .before .before .before .before .pre in
-    rw (present-count′ .ensures) (first-room (ended (ordersHead ++ text (presentCount (args′ .table .now)))) (orderLines (args′ .n)
+    rw (present-count′ .ensures) (first-room (ended (ordersHead ++ text (presentCount (args′ .table .now)))) (orderBytes (args′ .n)
     0 (args′ .table .now)) (args′ .out .now) (pre′ .1))
 
 sub-put-orders : tie.Need-sub-put-orders
@@ -33,7 +34,7 @@ sub-put-orders c = let args′ = c .before .before .before .before .before .befo
       puts-inside (ended (ordersHead ++ text (presentCount (args′ .table .now)))) (args′ .out .now) _
           (put-heading′ .result) (puts-same _ (ended (ordersHead ++ text (presentCount (args′ .table .now)))) _ _ _ (ap (λ x. ended
           (ordersHead ++ text x)) (present-count′ .ensures)) (put-heading′ .ensures)) (first-room (ended (ordersHead ++ text (presentCount
-          (args′ .table .now)))) (orderLines (args′ .n) 0 (args′ .table .now)) (args′ .out .now) (pre′ .1)),
+          (args′ .table .now)))) (orderBytes (args′ .n) 0 (args′ .table .now)) (args′ .out .now) (pre′ .1)),
     )
 
 part-put-orders-start : tie.Need-part-put-orders-start
@@ -46,7 +47,7 @@ part-put-orders-start c = let args′ = c .before .before .before .before .befor
       puts-inside (ended (ordersHead ++ text (presentCount (args′ .table .now)))) (args′ .out .now) _
           (put-heading′ .result) (puts-same _ (ended (ordersHead ++ text (presentCount (args′ .table .now)))) _ _ _ (ap (λ x. ended
           (ordersHead ++ text x)) (present-count′ .ensures)) (put-heading′ .ensures)) (first-room (ended (ordersHead ++ text (presentCount
-          (args′ .table .now)))) (orderLines (args′ .n) 0 (args′ .table .now)) (args′ .out .now) (pre′ .1)),
+          (args′ .table .now)))) (orderBytes (args′ .n) 0 (args′ .table .now)) (args′ .out .now) (pre′ .1)),
     )
 
 part-put-orders-end : tie.Need-part-put-orders-end
@@ -59,7 +60,7 @@ part-put-orders-end c = let args′ = c .before .before .before .before .before 
       puts-inside (ended (ordersHead ++ text (presentCount (args′ .table .now)))) (args′ .out .now) _
           (put-heading′ .result) (puts-same _ (ended (ordersHead ++ text (presentCount (args′ .table .now)))) _ _ _ (ap (λ x. ended
           (ordersHead ++ text x)) (present-count′ .ensures)) (put-heading′ .ensures)) (first-room (ended (ordersHead ++ text (presentCount
-          (args′ .table .now)))) (orderLines (args′ .n) 0 (args′ .table .now)) (args′ .out .now) (pre′ .1)),
+          (args′ .table .now)))) (orderBytes (args′ .n) 0 (args′ .table .now)) (args′ .out .now) (pre′ .1)),
     )
 
 put-orders-requires : tie.Need-put-orders-requires
@@ -70,8 +71,8 @@ put-orders-requires c κs = let pre′ = c .before .before .before .before .befo
       pre′ .0,
       left-room (ended (ordersHead ++ text (presentCount (args′ .table .now)))) (args′ .out .now) _ (put-heading′ .result)
           (puts-same _ (ended (ordersHead ++ text (presentCount (args′ .table .now)))) _ _ _ (ap (λ x. ended (ordersHead ++ text x))
-          (present-count′ .ensures)) (put-heading′ .ensures)) (orderLines (args′ .n) 0 (args′ .table .now)) _ refl (part-room (ended
-          (ordersHead ++ text (presentCount (args′ .table .now)))) (orderLines (args′ .n) 0 (args′ .table .now)) (args′ .out .now)
+          (present-count′ .ensures)) (put-heading′ .ensures)) (orderBytes (args′ .n) 0 (args′ .table .now)) _ refl (part-room (ended
+          (ordersHead ++ text (presentCount (args′ .table .now)))) (orderBytes (args′ .n) 0 (args′ .table .now)) (args′ .out .now)
           (pre′ .1)),
     )
 
@@ -83,8 +84,8 @@ add-result c = let args′ = c .before .before .before .before .before .before .
     let pre′ = c .before .before .before .before .before .before .before .before .before .before .before .pre in
     sum-fits (ended (ordersHead ++ text (presentCount (args′ .table .now)))) (args′ .out .now) _ (put-heading′ .result) (puts-same _
     (ended (ordersHead ++ text (presentCount (args′ .table .now)))) _ _ _ (ap (λ x. ended (ordersHead ++ text x))
-    (present-count′ .ensures)) (put-heading′ .ensures)) (orderLines (args′ .n) 0 (args′ .table .now)) _ _ (put-orders′ .result)
-    (put-orders′ .ensures) (part-room (ended (ordersHead ++ text (presentCount (args′ .table .now)))) (orderLines (args′ .n) 0
+    (present-count′ .ensures)) (put-heading′ .ensures)) (orderBytes (args′ .n) 0 (args′ .table .now)) _ _ (put-orders′ .result)
+    (put-orders′ .ensures) (part-room (ended (ordersHead ++ text (presentCount (args′ .table .now)))) (orderBytes (args′ .n) 0
     (args′ .table .now)) (args′ .out .now) (pre′ .1)) (search needs)
 
 same-length : tie.Need-same-length
@@ -98,8 +99,8 @@ returns c = let args′ = c .before .before .before .before .before .before .bef
     let pre′ = c .before .before .before .before .before .before .before .before .before .before .before .pre in
     puts-tail (ended (ordersHead ++ text (presentCount (args′ .table .now)))) (args′ .out .now) _ (put-heading′ .result) (puts-same
     _ (ended (ordersHead ++ text (presentCount (args′ .table .now)))) _ _ _ (ap (λ x. ended (ordersHead ++ text x))
-    (present-count′ .ensures)) (put-heading′ .ensures)) (orderLines (args′ .n) 0 (args′ .table .now)) _ (put-orders′ .result) _ refl
-    (put-orders′ .ensures) (part-room (ended (ordersHead ++ text (presentCount (args′ .table .now)))) (orderLines (args′ .n) 0
+    (present-count′ .ensures)) (put-heading′ .ensures)) (orderBytes (args′ .n) 0 (args′ .table .now)) _ (put-orders′ .result) _ refl
+    (put-orders′ .ensures) (part-room (ended (ordersHead ++ text (presentCount (args′ .table .now)))) (orderBytes (args′ .n) 0
     (args′ .table .now)) (args′ .out .now) (pre′ .1))
 
 pub put-order-section-spec : {M : Type 1} → statement M

@@ -10,20 +10,20 @@ use Rattle.orders.proofs.Entries.{back}
 use mir.Syntax.{w16}
 use lib.IntN.{pos}
 use lib.Seq.{take-length}
-use Rattle.sheet.specs.Sheet.{orderLine, orderLines}
-use Rattle.writer.specs.Parts.{Tested}
+use Rattle.sheet.specs.Sheet.{labelLines, orderLines}
+use Rattle.writer.specs.Parts.{Tested, orderBytes, entryBytes}
 use Rattle.lettering.specs.Putting.{Puts}
 use Rattle.writer.proofs.put_orders.Statement.{statement}
 use Rattle.writer.proofs.put_orders.Tie as tie
 
 abbrev Inv-loop : tie.InvT-loop
-Inv-loop n table out₀ at₀ p₀ out at p = (p ≤ length table) × Tested n table × (length (orderLines n 0 table) ≤ length out₀) × (length out ≡ length out₀) × Puts (orderLines n 0 (take p table)) out₀ out at
+Inv-loop n table out₀ at₀ p₀ out at p = (p ≤ length table) × Tested n table × (length (orderBytes n 0 table) ≤ length out₀) × (length out ≡ length out₀) × Puts (orderBytes n 0 (take p table)) out₀ out at
 
 abbrev μ-loop : tie.MeasureT-loop
 μ-loop n table out₀ at₀ p₀ out at p = length table - p
 
 loop-holds : tie.Need-loop-holds Inv-loop μ-loop
-unfolding orderLines
+unfolding labelLines orderLines
 loop-holds c = (omega arith, c .before .pre .0, c .before .pre .1, refl, puts-none (c .before .args .out .now))
 
 mul-put-order : tie.Need-mul-put-order Inv-loop μ-loop
@@ -41,7 +41,7 @@ sub-put-order c = let args′ = c .before .before .before .before .args in
     let loop′ = c .before .before .loop in
     omega (
       arith,
-      puts-inside (orderLines (args′ .n) 0 (take (loop′ .p) (args′ .table .now))) (args′ .out .now) (loop′ .out)
+      puts-inside (orderBytes (args′ .n) 0 (take (loop′ .p) (args′ .table .now))) (args′ .out .now) (loop′ .out)
           (loop′ .at) (loop′ .inv .4) (omega (
             arith,
             next-room (args′ .n) (args′ .table .now) (loop′ .p) (args′ .out .now) (omega arith)
@@ -54,7 +54,7 @@ part-put-order-start c = let args′ = c .before .before .before .before .args i
     let loop′ = c .before .before .loop in
     omega (
       arith,
-      puts-inside (orderLines (args′ .n) 0 (take (loop′ .p) (args′ .table .now))) (args′ .out .now) (loop′ .out)
+      puts-inside (orderBytes (args′ .n) 0 (take (loop′ .p) (args′ .table .now))) (args′ .out .now) (loop′ .out)
           (loop′ .at) (loop′ .inv .4) (omega (
             arith,
             next-room (args′ .n) (args′ .table .now) (loop′ .p) (args′ .out .now) (omega arith)
@@ -67,7 +67,7 @@ part-put-order-end c = let args′ = c .before .before .before .before .args in
     let loop′ = c .before .before .loop in
     omega (
       arith,
-      puts-inside (orderLines (args′ .n) 0 (take (loop′ .p) (args′ .table .now))) (args′ .out .now) (loop′ .out)
+      puts-inside (orderBytes (args′ .n) 0 (take (loop′ .p) (args′ .table .now))) (args′ .out .now) (loop′ .out)
           (loop′ .at) (loop′ .inv .4) (omega (
             arith,
             next-room (args′ .n) (args′ .table .now) (loop′ .p) (args′ .out .now) (omega arith)
@@ -82,8 +82,8 @@ put-order-requires c κs = let args′ = c .before .before .before .before .befo
     rw (back w16 (getD (args′ .table .now) (loop′ .p) (pos 0)) (put-order-arg′ .given)) (
       entry-tested (args′ .n) (args′ .table .now)
           (loop′ .p) (loop′ .inv .1) (omega arith),
-      left-room (orderLines (args′ .n) 0 (take (loop′ .p) (args′ .table .now)))
-          (args′ .out .now) (loop′ .out) (loop′ .at) (loop′ .inv .4) (orderLine (args′ .n) (loop′ .p) (getD (args′ .table .now) (loop′ .p)
+      left-room (orderBytes (args′ .n) 0 (take (loop′ .p) (args′ .table .now)))
+          (args′ .out .now) (loop′ .out) (loop′ .at) (loop′ .inv .4) (entryBytes (args′ .n) (loop′ .p) (getD (args′ .table .now) (loop′ .p)
           (pos 0))) _ refl (next-room (args′ .n) (args′ .table .now) (loop′ .p) (args′ .out .now) (omega arith) (loop′ .inv .2)),
     )
 
@@ -92,9 +92,9 @@ add-at c = let args′ = c .before .before .before .before .before .before .befo
     let loop′ = c .before .before .before .before .before .before .loop in
     let put-order′ = c .before .before .put-order in
     let put-order-arg′ = c .before .before .before .before .put-order-arg in
-    sum-fits (orderLines (args′ .n) 0 (take (loop′ .p) (args′ .table .now))) (args′ .out .now) (loop′ .out) (loop′ .at)
-    (loop′ .inv .4) (orderLine (args′ .n) (loop′ .p) (getD (args′ .table .now) (loop′ .p) (pos 0))) _ _ (put-order′ .result)
-    (puts-same _ (orderLine (args′ .n) (loop′ .p) (getD (args′ .table .now) (loop′ .p) (pos 0))) _ _ _ (ap (λ x. orderLine
+    sum-fits (orderBytes (args′ .n) 0 (take (loop′ .p) (args′ .table .now))) (args′ .out .now) (loop′ .out) (loop′ .at)
+    (loop′ .inv .4) (entryBytes (args′ .n) (loop′ .p) (getD (args′ .table .now) (loop′ .p) (pos 0))) _ _ (put-order′ .result)
+    (puts-same _ (entryBytes (args′ .n) (loop′ .p) (getD (args′ .table .now) (loop′ .p) (pos 0))) _ _ _ (ap (λ x. entryBytes
     (args′ .n) (loop′ .p) x) (back w16 (getD (args′ .table .now) (loop′ .p) (pos 0)) (put-order-arg′ .given)))
     (put-order′ .ensures)) (next-room (args′ .n) (args′ .table .now) (loop′ .p) (args′ .out .now) (omega arith) (loop′ .inv .2))
     (search needs)
@@ -114,12 +114,12 @@ loop-again c = let loop′ = c .before .before .before .before .before .before .
     let put-order-arg′ = c .before .before .before .before .put-order-arg in
     let l = loop′ in
     let t = args′ .table .now in
-    let q = puts-same _ (orderLines (args′ .n) 0 (take (l .p + 1) t)) (args′ .out .now) _ _ (sym (order-lines-next t (l .p) (omega
+    let q = puts-same _ (orderBytes (args′ .n) 0 (take (l .p + 1) t)) (args′ .out .now) _ _ (sym (order-lines-next t (l .p) (omega
     arith) (args′ .n)))
-    (puts-tail (orderLines (args′ .n) 0 (take (loop′ .p) (args′ .table .now))) (args′ .out .now) (l .out) (l .at)
-    (l .inv .4) (orderLine (args′ .n) (loop′ .p) (getD (args′ .table .now) (loop′ .p) (pos 0))) _ (put-order′ .result) _
-    refl (puts-same _ (orderLine (args′ .n) (loop′ .p) (getD (args′ .table .now) (loop′ .p) (pos 0))) _ _ _ (ap (λ x.
-    orderLine (args′ .n) (loop′ .p) x) (back w16 (getD (args′ .table .now) (loop′ .p) (pos 0)) (put-order-arg′ .given)))
+    (puts-tail (orderBytes (args′ .n) 0 (take (loop′ .p) (args′ .table .now))) (args′ .out .now) (l .out) (l .at)
+    (l .inv .4) (entryBytes (args′ .n) (loop′ .p) (getD (args′ .table .now) (loop′ .p) (pos 0))) _ (put-order′ .result) _
+    refl (puts-same _ (entryBytes (args′ .n) (loop′ .p) (getD (args′ .table .now) (loop′ .p) (pos 0))) _ _ _ (ap (λ x.
+    entryBytes (args′ .n) (loop′ .p) x) (back w16 (getD (args′ .table .now) (loop′ .p) (pos 0)) (put-order-arg′ .given)))
     (put-order′ .ensures)) (next-room (args′ .n) (args′ .table .now) (loop′ .p) (args′ .out .now) (omega arith)
     (loop′ .inv .2))) in (
       omega arith,
@@ -141,7 +141,7 @@ returns c = let args′ = c .before .before .before .args in
     let loop′ = c .before .loop in
     let t = args′ .table .now in
     let e : loop′ .p ≡ length t = omega arith in
-    puts-same _ (orderLines (args′ .n) 0 t) (args′ .out .now) (loop′ .out) (loop′ .at) (ap (λ x. orderLines (args′ .n) 0 x) (ap (λ
+    puts-same _ (orderBytes (args′ .n) 0 t) (args′ .out .now) (loop′ .out) (loop′ .at) (ap (λ x. orderBytes (args′ .n) 0 x) (ap (λ
     i. take i t) e ∙ take-length t)) (loop′ .inv .4)
 
 pub put-orders-spec : {M : Type 1} → statement M

@@ -6,8 +6,8 @@ use mathlib.Core.Path.{refl}
 use Rattle.lettering.proofs.PutLaws.{puts-inside, puts-tail, left-room, sum-fits, part-room, first-room}
 use mathlib.Core.List.{_++_}
 use Rattle.sheet.specs.Text.{text, ended, colsHead}
-use Rattle.sheet.specs.Sheet.{labelLines, orderSection}
-use Rattle.writer.specs.Parts.{labelsOf}
+use Rattle.sheet.specs.Sheet.{labelLines}
+use Rattle.writer.specs.Parts.{labelsOf, orderSection}
 use Rattle.writer.proofs.put_rest.Statement.{statement}
 use Rattle.writer.proofs.put_rest.Tie as tie
 

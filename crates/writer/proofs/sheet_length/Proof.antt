@@ -4,7 +4,8 @@ use native.Mathlib.Omega.{arith}
 use Prim.Native.Nat.{_-_}
 use mathlib.Core.Path.{ap}
 use lib.ListN.{length}
-use Rattle.writer.proofs.OrderLaws.{count-le, square-few}
+use Rattle.sheet.proofs.Orders.{count-le}
+use Rattle.writer.proofs.OrderLaws.{square-few}
 use Rattle.lettering.proofs.TextLaws.{text-within}
 use Rattle.sheet.specs.Text.{text}
 use Rattle.sheet.specs.Sheet.{presentCount}

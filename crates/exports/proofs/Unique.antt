@@ -21,7 +21,8 @@ use Rattle.printing.specs.Promise.{PrintPromise}
 use Rattle.printing.specs.Promise as printing
 use Rattle.printing.specs.declared.Printed.{Printed}
 use Rattle.printing.proofs.Unique.{print-once}
-use Rattle.exports.specs.Told.{Returns, gave, kept-back, itself, bit, Told, ReturnsRead, read, at-line, refused, ToldRead}
+use Rattle.telling.specs.Telling.{Returns, gave, kept-back, itself, bit, ReturnsRead, read, at-line, refused}
+use Rattle.exports.specs.Told.{Told, ToldRead}
 
 -- what an answer is returned as
 abbrev number : {X : Type 0} → Said X → ℕ
@@ -47,7 +48,7 @@ told-once {says = says} {code = code} {before = before} f g e =
     (a ∙ ap (λ x. number (says x)) e ∙ sym c, b ∙ ap (λ x. held code before (says x)) e ∙ sym d)
 
 -- Routes 1, 2 and 3: what is returned, the sum and the three lists.
-pub route-once : {tests : List Test} {n : ℕ} {t : List ℤ} {adds stars : List ℕ} {heads : List ℤ} {a b c d : List ℕ} {e f : List ℤ} {r q : ℕ} {sum after other : ℤ}
+pub route-once : {tests : List Test} {n : ℕ} {t : List ℤ} {adds stars a b c d : List ℕ} {heads e f : List ℤ} {r q : ℕ} {sum after other : ℤ}
     → Told (λ (x : Answer). Routed tests n t adds stars heads x a c e) said itself r sum after
     → Told (λ (x : Answer). Routed tests n t adds stars heads x b d f) said itself q sum other
     → (r ≡ q) × (after ≡ other) × (a ≡ b) × (c ≡ d) × (e ≡ f)

@@ -1,38 +1,15 @@
--- How a call of the C interface tells what the call behind it answered.
-use mathlib.Core.Path.{_≡_}
-use mathlib.Core.Bool.{Bool, true, false}
-use mathlib.Core.List.{List, [], _∷_}
-use Prim.Native.Nat.{ℕ}
-use Rattle.orders.specs.Refusals.{Said, gives, refuses}
-
--- "the return value is 0 or document 01's refusal number", and a single result is "written only on success": r is what is returned,
--- and before and after are what the single result holds before and after the call, where a value x is written as code x
-pub data Returns {X Y : Type 0} (code : X → Y) (said : Said X) (r : ℕ) (before after : Y) : Type 0 where
-  gave : (x : X) → said ≡ gives x → r ≡ 0 → after ≡ code x → Returns code said r before after
-  kept-back : (k : ℕ) (values : List ℕ) → said ≡ refuses k values → r ≡ k → after ≡ before → Returns code said r before after
-
--- a value that is written as it is
-abbrev pub itself : {X : Type 0} → X → X
-itself x = x
-
--- "1 or 0"
-abbrev pub bit : Bool → ℕ
-bit true = 1
-bit false = 0
-
 -- A call of the C interface: some answer keeps the promise of the call behind it, and that answer is what is told.
+use Prim.Native.Nat.{ℕ}
+use Rattle.orders.specs.Refusals.{Said}
+use Rattle.telling.specs.Telling.{Returns, ReturnsRead}
+
+-- A call with one single result, which holds before at the call and after when it returns r.
 pub record Told {Answer X Y : Type 0} (promise : Answer → Type 0) (said : Answer → Said X) (code : X → Y) (r : ℕ) (before after : Y) : Type 0 where
   pub answer : Answer
   pub promised : promise answer
   pub told : Returns code (said answer) r before after
 
--- The reader has two single results: N, "written only on success", and the line, "written for refusal 10 alone".
-pub data ReturnsRead (a : Said ℕ) (r n line n′ line′ : ℕ) : Type 0 where
-  read : (k : ℕ) → a ≡ gives k → r ≡ 0 → n′ ≡ k → line′ ≡ line → ReturnsRead a r n line n′ line′
-  at-line : (k : ℕ) → a ≡ refuses 10 (k ∷ []) → r ≡ 10 → n′ ≡ n → line′ ≡ k → ReturnsRead a r n line n′ line′
-  refused : (k : ℕ) → a ≡ refuses k [] → r ≡ k → n′ ≡ n → line′ ≡ line → ReturnsRead a r n line n′ line′
-
--- The reader's call: as above, with both results.
+-- The reader's call, with two single results: N and the line.
 pub record ToldRead {Answer : Type 0} (promise : Answer → Type 0) (said : Answer → Said ℕ) (r n line n′ line′ : ℕ) : Type 0 where
   pub answer : Answer
   pub promised : promise answer

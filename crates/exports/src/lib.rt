@@ -11,16 +11,15 @@ ghost use Rattle.writer.specs.declared.Written.{Written};
 ghost use Rattle.printing.specs.Promise.{PrintPromise};
 ghost use Rattle.printing.specs.Promise as printing;
 ghost use Rattle.printing.specs.declared.Printed.{Printed};
-ghost use Rattle.exports.specs.Told.{Told, ToldRead, itself, bit};
-use canon::Answer;
-use canon::Verdict;
-use orders::Refusal;
-use orders::number;
-use printing::Printed;
-use reader::Read;
-use writer::Written;
+ghost use Rattle.telling.specs.Telling.{itself, bit};
+ghost use Rattle.exports.specs.Told.{Told, ToldRead};
+use telling::tell_printed;
+use telling::tell_read;
+use telling::tell_sum;
+use telling::tell_verdict;
+use telling::tell_written;
 
-// Route 1. Rules out a sum written on a refusal, a sum kept back, and another number than the refusal's.
+// Route 1. Rules out lists written in each other's places, another N than the caller's, and what tell_sum rules out.
 #[no_mangle]
 pub extern "C" fn canon_solve(
     n: usize,
@@ -30,16 +29,16 @@ pub extern "C" fn canon_solve(
     heads: &mut [i32],
     sum: &mut i32,
 ) -> u32
-    ensures { λ r. ⌜ Told (λ (a : Answer). Solves n (now (table .entry)) (now (adds .entry)) (now (stars .entry)) (now (heads .entry)) a (now (adds .exit)) (now (stars .exit)) (now (heads .exit))) said itself r (now (sum .entry)) (now (sum .exit)) ⌝ }
+    ensures { λ r. ⌜
+        Told
+        (λ (a : Answer).
+        Solves n (now (table .entry)) (now (adds .entry)) (now (stars .entry)) (now (heads .entry)) a
+        (now (adds .exit)) (now (stars .exit)) (now (heads .exit)))
+        said itself r (now (sum .entry)) (now (sum .exit))
+        ⌝ }
 {
     let answer = canon::solve(n, table, adds, stars, heads);
-    match answer {
-        Answer::Sum(total) => {
-            *sum = total;
-            0
-        }
-        Answer::Refused(refusal) => number(refusal),
-    }
+    tell_sum(answer, sum)
 }
 
 // Route 2. Rules out what canon_solve rules out.
@@ -53,16 +52,16 @@ pub extern "C" fn canon_from_canon(
     heads: &mut [i32],
     sum: &mut i32,
 ) -> u32
-    ensures { λ r. ⌜ Told (λ (a : Answer). FromCanon n (now (table .entry)) (now (given .entry)) (now (adds .entry)) (now (stars .entry)) (now (heads .entry)) a (now (adds .exit)) (now (stars .exit)) (now (heads .exit))) said itself r (now (sum .entry)) (now (sum .exit)) ⌝ }
+    ensures { λ r. ⌜
+        Told
+        (λ (a : Answer).
+        FromCanon n (now (table .entry)) (now (given .entry)) (now (adds .entry)) (now (stars .entry)) (now (heads .entry)) a
+        (now (adds .exit)) (now (stars .exit)) (now (heads .exit)))
+        said itself r (now (sum .entry)) (now (sum .exit))
+        ⌝ }
 {
     let answer = canon::from_canon(n, table, given, adds, stars, heads);
-    match answer {
-        Answer::Sum(total) => {
-            *sum = total;
-            0
-        }
-        Answer::Refused(refusal) => number(refusal),
-    }
+    tell_sum(answer, sum)
 }
 
 // Route 3. Rules out what canon_solve rules out.
@@ -76,38 +75,30 @@ pub extern "C" fn canon_from_stars(
     heads: &mut [i32],
     sum: &mut i32,
 ) -> u32
-    ensures { λ r. ⌜ Told (λ (a : Answer). FromStars n (now (table .entry)) (now (given .entry)) (now (adds .entry)) (now (stars .entry)) (now (heads .entry)) a (now (adds .exit)) (now (stars .exit)) (now (heads .exit))) said itself r (now (sum .entry)) (now (sum .exit)) ⌝ }
+    ensures { λ r. ⌜
+        Told
+        (λ (a : Answer).
+        FromStars n (now (table .entry)) (now (given .entry)) (now (adds .entry)) (now (stars .entry)) (now (heads .entry)) a
+        (now (adds .exit)) (now (stars .exit)) (now (heads .exit)))
+        said itself r (now (sum .entry)) (now (sum .exit))
+        ⌝ }
 {
     let answer = canon::from_stars(n, table, given, adds, stars, heads);
-    match answer {
-        Answer::Sum(total) => {
-            *sum = total;
-            0
-        }
-        Answer::Refused(refusal) => number(refusal),
-    }
+    tell_sum(answer, sum)
 }
 
-// The yes-or-no. Rules out a verdict written on a refusal, a verdict turned round, and a byte that is neither 1 nor 0.
+// The yes-or-no. Rules out another N than the caller's, and what tell_verdict rules out.
 #[no_mangle]
 pub extern "C" fn canon_is_simplest(n: usize, table: &[i16], given: &[u32], yes: &mut u8) -> u32
-    ensures { λ r. ⌜ Told (λ (a : Verdict). Judges n (now (table .entry)) (now (given .entry)) a) judged bit r (now (yes .entry)) (now (yes .exit)) ⌝ }
+    ensures { λ r. ⌜
+        Told (λ (a : Verdict). Judges n (now (table .entry)) (now (given .entry)) a) judged bit r (now (yes .entry)) (now (yes .exit))
+        ⌝ }
 {
     let verdict = canon::is_simplest(n, table, given);
-    match verdict {
-        Verdict::Yes => {
-            *yes = 1;
-            0
-        }
-        Verdict::No => {
-            *yes = 0;
-            0
-        }
-        Verdict::Refused(refusal) => number(refusal),
-    }
+    tell_verdict(verdict, yes)
 }
 
-// The reader. Rules out N written on a refusal, a line written on another answer than refusal 10, and another line.
+// The reader. Rules out rows' labels in the columns' place, N in the line's, and what tell_read rules out.
 #[no_mangle]
 pub extern "C" fn canon_read_sheet(
     sheet: &[u8],
@@ -117,25 +108,19 @@ pub extern "C" fn canon_read_sheet(
     n: &mut usize,
     line: &mut usize,
 ) -> u32
-    ensures { λ r. ⌜ ToldRead (λ (a : Read). ReadPromise (now (sheet .entry)) (lent (now (table .entry)) (now (rows .entry)) (now (cols .entry))) (lent (now (table .exit)) (now (rows .exit)) (now (cols .exit))) (reader.says a)) reader.says r (now (n .entry)) (now (line .entry)) (now (n .exit)) (now (line .exit)) ⌝ }
+    ensures { λ r. ⌜
+        ToldRead
+        (λ (a : Read).
+        ReadPromise (now (sheet .entry)) (lent (now (table .entry)) (now (rows .entry)) (now (cols .entry)))
+        (lent (now (table .exit)) (now (rows .exit)) (now (cols .exit))) (reader.says a))
+        reader.says r (now (n .entry)) (now (line .entry)) (now (n .exit)) (now (line .exit))
+        ⌝ }
 {
     let answer = reader::read_sheet(sheet, table, rows, cols);
-    match answer {
-        Read::Rows(count) => {
-            *n = count;
-            0
-        }
-        Read::Refused(refusal) => match refusal {
-            Refusal::Line(at) => {
-                *line = at;
-                10
-            }
-            _ => number(refusal),
-        },
-    }
+    tell_read(answer, n, line)
 }
 
-// The writer. Rules out a length written on a refusal, a length kept back, and another number than the refusal's.
+// The writer. Rules out rows' labels in the columns' place, another N than the caller's, and what tell_written rules out.
 #[no_mangle]
 pub extern "C" fn canon_write_sheet(
     n: usize,
@@ -145,29 +130,26 @@ pub extern "C" fn canon_write_sheet(
     out: &mut [u8],
     length: &mut usize,
 ) -> u32
-    ensures { λ r. ⌜ Told (λ (a : Written). WritePromise (model n (now (table .entry)) (now (rows .entry)) (now (cols .entry))) (now (out .entry)) (now (out .exit)) (writer.says a)) writer.says itself r (now (length .entry)) (now (length .exit)) ⌝ }
+    ensures { λ r. ⌜
+        Told
+        (λ (a : Written).
+        WritePromise (model n (now (table .entry)) (now (rows .entry)) (now (cols .entry))) (now (out .entry)) (now (out .exit))
+        (writer.says a))
+        writer.says itself r (now (length .entry)) (now (length .exit))
+        ⌝ }
 {
     let answer = writer::write_sheet(n, table, rows, cols, out);
-    match answer {
-        Written::Bytes(count) => {
-            *length = count;
-            0
-        }
-        Written::Refused(refusal) => number(refusal),
-    }
+    tell_written(answer, length)
 }
 
-// The program's whole answer. Rules out a length written on a refusal, a length kept back, and another number than the refusal's.
+// The program's whole answer to a sheet. Rules out another text, and what tell_printed rules out.
 #[no_mangle]
 pub extern "C" fn canon_print(sheet: &[u8], out: &mut [u8], length: &mut usize) -> u32
-    ensures { λ r. ⌜ Told (λ (a : Printed). PrintPromise (now (sheet .entry)) (now (out .entry)) (now (out .exit)) (printing.says a)) printing.says itself r (now (length .entry)) (now (length .exit)) ⌝ }
+    ensures { λ r. ⌜
+        Told (λ (a : Printed). PrintPromise (now (sheet .entry)) (now (out .entry)) (now (out .exit)) (printing.says a))
+        printing.says itself r (now (length .entry)) (now (length .exit))
+        ⌝ }
 {
     let answer = printing::print_answer(sheet, out);
-    match answer {
-        Printed::Bytes(written) => {
-            *length = written;
-            0
-        }
-        Printed::Refused(refusal) => number(refusal),
-    }
+    tell_printed(answer, length)
 }

@@ -12,7 +12,7 @@ use mir.Facts.{toZ-ofZ, sfits-widen}
 use mir.Syntax.{w16, w32, w64}
 use mir.Val.{SFits, Fits, ofZ, toZ}
 use Rattle.theory.proofs.Signed.{signed as signs}
-use Rattle.sheet.specs.Text.{text, signed}
+use Rattle.sheet.specs.Text.{text, signed, minus}
 use Rattle.sheet.proofs.Numbers.{text-small, text-large, by-tens}
 pub use Rattle.sheet.proofs.Numbers.{text-within}
 
@@ -21,6 +21,10 @@ pub text-length : (n : ℕ) → length (text n) ≤ n + 1
 text-length =
     by-tens (λ n. length (text n) ≤ n + 1) (λ n h. rw (text-small n h) (omega arith))
     (λ n h ih. rw (text-large n h) (omega (arith, length-append (text (n / 10)) ((48 + n % 10) ∷ []))))
+
+-- a number of 64 bits has at most 20 digits
+pub number-short : (v : ℕ) → Fits w64 v → length (text v) ≤ 20
+number-short v f = text-within 19 v (omega arith)
 
 -- a number's two ways: ten and more, or one digit
 pub digits-more : (v : ℕ) → 10 ≤ v → length (text v) ≡ length (text (v / 10)) + 1
@@ -31,7 +35,7 @@ minus-is (pos n) t = absurd (omega (arith, signs, t))
 minus-is (negsuc n) t = +ℤ-idl (pos (suc n))
 
 -- the text of an order with and without a minus
-pub signed-minus : (v : ℤ) → ltZ v (pos 0) ≡ true → signed v ≡ 45 ∷ text (natAbs v)
+pub signed-minus : (v : ℤ) → ltZ v (pos 0) ≡ true → signed v ≡ minus ∷ text (natAbs v)
 signed-minus (pos n) t = absurd (omega (arith, signs, t))
 signed-minus (negsuc n) t = refl
 

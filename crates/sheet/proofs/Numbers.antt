@@ -79,6 +79,27 @@ pub text-within : (k n : ℕ) → n < tens (suc k) → length (text n) ≤ suc k
 text-within zero n h = rw (text-small n h) (omega arith)
 text-within (suc k) n h = omega (arith, text-step (tens (suc k)) (suc k) (omega arith) (text-within k) n h)
 
+-- a number has no more digits than a greater one
+pub text-mono : (m n : ℕ) → n ≤ m → length (text n) ≤ length (text m)
+text-mono =
+    by-tens (λ m. (n : ℕ) → n ≤ m → length (text n) ≤ length (text m))
+    (λ m h n g. omega (arith, ap length (text-small m h), ap length (text-small n (omega arith)))) large
+  where
+    large : (m : ℕ) → 10 ≤ m → ((n : ℕ) → n ≤ m / 10 → length (text n) ≤ length (text (m / 10))) → (n : ℕ) → n ≤ m → length (text n) ≤ length (text m)
+    large m h rec n g =
+        elim (decLt n 10) [
+          | yes k ↦ omega (arith, ap length (text-small n k), text-some m)
+          | no k ↦
+              omega (
+                arith,
+                ap length (text-large m h),
+                ap length (text-large n (omega arith)),
+                length-append (text (m / 10)) ((48 + m % 10) ∷ []),
+                length-append (text (n / 10)) ((48 + n % 10) ∷ []),
+                rec (n / 10) (omega arith),
+              )
+        ]
+
 -- "no leading zero"
 pub text-first : (n : ℕ) → 1 ≤ n → 49 ≤ getD (text n) 0 0
 text-first =

@@ -5,7 +5,7 @@ use mathlib.Core.List.{List, [], _∷_, _++_, append-assoc, append-nil}
 use Prim.Native.Nat.{ℕ, zero, suc, _+_, _-_, _*_, _/_, _%_, _<_, _≤_}
 use native.Mathlib.Omega.{arith}
 use native.Mathlib.Decide.{ℕ-discrete}
-use native.Mathlib.Nat.{mul-add-div-right, div-eq-of-lt, mul-add-mod-self-right, mod-eq-of-lt, div-add-mod', div-lt-iff-lt-mul, mod-lt, mul-le-mul-right}
+use native.Mathlib.Nat.{mul-add-div-right, div-eq-of-lt, mul-add-mod-self-right, mod-eq-of-lt, div-add-mod', div-lt-iff-lt-mul, mod-lt}
 use borrow.Author.Tests.{ne-eqb, eqb-true}
 use lib.IntN.{ℤ, pos, negsuc}
 use lib.ListN.{length, getD, replicate, length-append, length-replicate, List·getD-append, getD-replicate}
@@ -13,6 +13,7 @@ use lib.Seq.{getD-append-add}
 use Rattle.theory.specs.Limits.{order}
 use Rattle.theory.specs.Table.{absent, Present, Order, Entries}
 use Rattle.theory.proofs.Signed.{signed}
+pub use Rattle.orders.proofs.Places.{cell}
 use Rattle.sheet.specs.Text.{text, ended, rowsHead, colsHead, ordersHead}
 use Rattle.sheet.specs.Sheet.{Labelled, isAbsent, presentCount, orderText, labelLines, orderLines, headed, labelSection, sheetOf}
 use Rattle.sheet.proofs.Bytes.{clash}
@@ -118,19 +119,16 @@ module _ (n i j : ℕ) (inside : j < n) where
   pub place-col : (i * n + j) % n ≡ j
   place-col = mul-add-mod-self-right i n j ∙ mod-eq-of-lt {n = j} {m = n} inside
 
-pub cell : (n i j : ℕ) → i < n → j < n → i * n + j < n * n
-cell n i j p q = let h : suc i * n ≤ n * n = mul-le-mul-right n p in let e : suc i * n ≡ i * n + n = native.Mathlib.Nat.suc-mul i n in omega arith
-
 -- the row and the column of place p
 module _ (n p : ℕ) (inside : p < n * n) where
-  some : 0 < n
-  some = elim (ℕ-discrete n 0) [ yes e ↦ absurd (let h : n * n ≡ 0 = rw e in omega arith) | no ne ↦ omega arith ]
+  pub some-row : 0 < n
+  some-row = elim (ℕ-discrete n 0) [ yes e ↦ absurd (let h : n * n ≡ 0 = rw e in omega arith) | no ne ↦ omega arith ]
 
   pub row-inside : p / n < n
-  row-inside = div-lt-iff-lt-mul {k = n} {x = p} {y = n} some .1 inside
+  row-inside = div-lt-iff-lt-mul {k = n} {x = p} {y = n} some-row .1 inside
 
   pub col-inside : p % n < n
-  col-inside = mod-lt p {m = n} some
+  col-inside = mod-lt p {m = n} some-row
 
   pub row-col : p / n * n + p % n ≡ p
   row-col = div-add-mod' p n

@@ -2,7 +2,7 @@
 use mathlib.Core.Path.{_≡_, refl, subst}
 use mathlib.Core.List.{List, [], _∷_}
 use native.Mathlib.Decide.{ℕ-discrete, decLe, decLt}
-use Rattle.sheet.specs.Text.{ascii, digits, text}
+use Rattle.sheet.specs.Text.{digits, text}
 use Rattle.sheet.specs.Reading.{start, Reads, Outcome, wrong}
 use Rattle.sheet.specs.WrongSheets.{WrongSheet, AllWrong, wrong-sheets}
 use Rattle.sheet.proofs.Deciding.{outcome}
@@ -11,7 +11,7 @@ use Rattle.sheet.proofs.FirstWrong.{wrong-is-first}
 -- the outcomes computed, and those of the list
 abbrev computed : List WrongSheet → List Outcome
 computed [] = []
-computed (w ∷ ws) = outcome (ascii (w .sheet)) .0 ∷ computed ws
+computed (w ∷ ws) = outcome (w .sheet) .0 ∷ computed ws
 
 abbrev stated : List WrongSheet → List Outcome
 stated [] = []
@@ -21,7 +21,7 @@ stated (w ∷ ws) = wrong (w .line) ∷ stated ws
 all-wrong : (ws : List WrongSheet) → computed ws ≡ stated ws → AllWrong ws
 all-wrong [] e = tt
 all-wrong (w ∷ ws) e =
-    let s = ascii (w .sheet) in
+    let s = w .sheet in
     let h : outcome s .0 ≡ wrong (w .line) = cc in
     (wrong-is-first s (w .line) (subst (λ o. Reads start 1 s o) h (outcome s .1)), all-wrong ws (cc))
 

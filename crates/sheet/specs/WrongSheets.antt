@@ -1,29 +1,35 @@
 -- Wrong sheets with the numbers of their wrong lines, as one list under one statement. `\n` is a line feed.
-use mathlib.Core.List.{List, [], _∷_}
-use Prim.Native.Nat.{ℕ}
+use mathlib.Core.List.{List, [], _∷_, _++_}
+use Prim.Native.Nat.{ℕ, _+_}
 use Prim.Native.String.{String}
-use Rattle.sheet.specs.Text.{ascii}
+use lib.IntN.{pos, negsuc}
+use Rattle.theory.specs.Limits.{rows, order}
+use Rattle.sheet.specs.Text.{ascii, text, signed, ended, rowsHead}
 use Rattle.sheet.specs.FirstWrong.{FirstWrong}
 
 pub record WrongSheet : Type 0 where
   pub line : ℕ
-  pub sheet : String
+  pub sheet : List ℕ
 
 -- the one statement: in each of the sheets that line is the first wrong one
 abbrev pub AllWrong : List WrongSheet → Type 0
 AllWrong [] = Unit
-AllWrong (w ∷ ws) = FirstWrong (ascii (w .sheet)) (w .line) × AllWrong ws
+AllWrong (w ∷ ws) = FirstWrong (w .sheet) (w .line) × AllWrong ws
+
+-- line k of these bytes, or of this text
+abbrev bytes : ℕ → List ℕ → WrongSheet
+bytes k s = record { line = k; sheet = s }
 
 abbrev line : ℕ → String → WrongSheet
-line k s = record { line = k; sheet = s }
+line k s = bytes k (ascii s)
 
 abbrev pub wrong-sheets : List WrongSheet
 wrong-sheets =
     -- nothing at all: the first line is missing
     line 1 "" ∷
     -- "N is 1 to 32"
-    line 1 "rows 33\n" ∷
     line 1 "rows 0\n" ∷
+    bytes 1 (ended (rowsHead ++ text (rows + 1))) ∷
     -- "no leading zero, no plus", "by its exact bytes"
     line 1 "rows +1\na\n" ∷
     line 1 "rows 01\na\n" ∷
@@ -43,8 +49,8 @@ wrong-sheets =
     line 6 "rows 1\na\ncols 1\nx\norders 1\n1 1 +1\n" ∷
     line 6 "rows 1\na\ncols 1\nx\norders 1\n1  1 1\n" ∷
     -- "i and j are 1 to N, v is −100 to 100"
-    line 6 "rows 1\na\ncols 1\nx\norders 1\n1 1 101\n" ∷
-    line 6 "rows 1\na\ncols 1\nx\norders 1\n1 1 -101\n" ∷
+    bytes 6 (ascii "rows 1\na\ncols 1\nx\norders 1\n1 1 " ++ ended (signed (pos (order + 1)))) ∷
+    bytes 6 (ascii "rows 1\na\ncols 1\nx\norders 1\n1 1 " ++ ended (signed (negsuc order))) ∷
     line 6 "rows 1\na\ncols 1\nx\norders 1\n1 2 0\n" ∷
     line 6 "rows 1\na\ncols 1\nx\norders 1\n0 1 0\n" ∷
     -- "row before column, strictly rising"

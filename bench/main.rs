@@ -1,15 +1,16 @@
 //! Times the library's calls beside an ordinary implementation of the same answers, in one run.
 //!
-//! bench times [CALL]: the times in microseconds, the library's and the ordinary ones, each the median of repeats and of the processor's time alone. bench stack: the stack that each call uses.
-//! bench count CALL KIND N WHO: the call on every table once, inside the function `counted`, for callgrind. bench tables:
-//! how many tables that is. bench spin CALL KIND N WHO: the same many times over, for a sampling profiler. The answers of the two are compared first.
+//! bench times [CALL]: the times in microseconds, the library's and the ordinary ones, each the median of repeats and of
+//! the processor's time alone. bench stack: the stack that each call uses. bench count CALL KIND N WHO: the call on every
+//! table once, inside the function `counted`, for callgrind. bench tables: how many tables that is. bench spin CALL KIND N
+//! WHO: the same many times over, for a sampling profiler. The answers of the two are compared first.
 
 mod ordinary;
 
 const ABSENT: i16 = -32768;
 const TABLES: usize = 24;
 const REPEATS: usize = 15;
-const CALLS: [&str; 5] = ["solve", "from_canon", "from_stars", "read_sheet", "write_sheet"];
+const CALLS: [&str; 7] = ["solve", "from_canon", "from_stars", "is_simplest", "read_sheet", "write_sheet", "print"];
 const KINDS: [&str; 4] = ["full", "small", "sparse", "staircase"];
 const SIZES: [usize; 3] = [8, 16, 32];
 
@@ -23,10 +24,13 @@ extern "C" {
     fn canon_from_stars(n: usize, table: *const i16, table_len: usize, given: *const u32, given_len: usize,
         adds: *mut u32, adds_len: usize, stars: *mut u32, stars_len: usize, heads: *mut i32, heads_len: usize,
         sum: *mut i32) -> u32;
+    fn canon_is_simplest(n: usize, table: *const i16, table_len: usize, given: *const u32, given_len: usize,
+        yes: *mut u8) -> u32;
     fn canon_read_sheet(sheet: *const u8, sheet_len: usize, table: *mut i16, table_len: usize,
         rows: *mut u8, rows_len: usize, cols: *mut u8, cols_len: usize, n: *mut usize, line: *mut usize) -> u32;
     fn canon_write_sheet(n: usize, table: *const i16, table_len: usize, rows: *const u8, rows_len: usize,
         cols: *const u8, cols_len: usize, out: *mut u8, out_len: usize, length: *mut usize) -> u32;
+    fn canon_print(sheet: *const u8, sheet_len: usize, out: *mut u8, out_len: usize, length: *mut usize) -> u32;
     fn clock_gettime(clock: i32, time: *mut [i64; 2]) -> i32;
     fn _exit(status: i32) -> !;
 }
@@ -45,6 +49,8 @@ struct Job {
     n: usize,
     table: Vec<i16>,
     canon: Vec<u32>,
+    /// What the yes-or-no is asked: the simplest canon in some jobs, another in the rest.
+    asked: Vec<u32>,
     stars: Vec<u32>,
     rows: Vec<u8>,
     cols: Vec<u8>,
@@ -57,6 +63,7 @@ struct Room {
     stars: [u32; 32],
     heads: [i32; 32],
     sum: i32,
+    yes: u8,
     table: Vec<i16>,
     rows: [u8; 256],
     cols: [u8; 256],
@@ -73,6 +80,7 @@ impl Room {
             stars: [0; 32],
             heads: [0; 32],
             sum: 0,
+            yes: 0,
             table: vec![0; 1024],
             rows: [0; 256],
             cols: [0; 256],
@@ -143,10 +151,11 @@ fn job(chance: &mut Chance, kind: &str, n: usize) -> Job {
         let Ok(answer) = ordinary::solve(n, &table) else { continue };
         let stars = answer.stars[..n].to_vec();
         let canon = some_canon(chance, n, &table, &stars);
+        let asked = if canon[0] % 2 == 0 { answer.additions[..n].to_vec() } else { canon.clone() };
         let (rows, cols) = (labels(b'r', n), labels(b'c', n));
         let mut sheet = Vec::new();
         ordinary::write(n, &table, &rows, &cols, 12288, &mut sheet).expect("a sheet");
-        return Job { n, table, canon, stars, rows, cols, sheet };
+        return Job { n, table, canon, asked, stars, rows, cols, sheet };
     }
 }
 
@@ -160,7 +169,7 @@ fn jobs(kind: &str, n: usize) -> Vec<Job> {
 fn library(call: &str, job: &Job, room: &mut Room) -> u32 {
     let n = job.n;
     let (table, adds, stars, heads) = (job.table.as_ptr(), room.adds.as_mut_ptr(), room.stars.as_mut_ptr(), room.heads.as_mut_ptr());
-    // Safety: each pointer is to as many elements as are said, and no slice that is written overlaps another.
+    // Safety: each pointer is to as many elements as are said, and nothing that is written overlaps anything else.
     unsafe {
         match call {
             "solve" => canon_solve(n, table, n * n, adds, n, stars, n, heads, n, &mut room.sum),
@@ -170,11 +179,13 @@ fn library(call: &str, job: &Job, room: &mut Room) -> u32 {
             "from_stars" => {
                 canon_from_stars(n, table, n * n, job.stars.as_ptr(), n, adds, n, stars, n, heads, n, &mut room.sum)
             }
+            "is_simplest" => canon_is_simplest(n, table, n * n, job.asked.as_ptr(), n, &mut room.yes),
             "read_sheet" => {
                 let (rows, cols) = (room.rows.as_mut_ptr(), room.cols.as_mut_ptr());
                 let into = room.table.as_mut_ptr();
                 canon_read_sheet(job.sheet.as_ptr(), job.sheet.len(), into, 1024, rows, 256, cols, 256, &mut room.n, &mut room.line)
             }
+            "print" => canon_print(job.sheet.as_ptr(), job.sheet.len(), room.out.as_mut_ptr(), 12288, &mut room.line),
             _ => {
                 let (rows, cols) = (job.rows.as_ptr(), job.cols.as_ptr());
                 canon_write_sheet(n, table, n * n, rows, 8 * n, cols, 8 * n, room.out.as_mut_ptr(), 12288, &mut room.line)
@@ -204,6 +215,19 @@ fn ordinary_call(call: &str, job: &Job, room: &mut Room) -> u32 {
         "solve" => keep(ordinary::solve(n, &job.table), n, room),
         "from_canon" => keep(ordinary::from_canon(n, &job.table, &job.canon), n, room),
         "from_stars" => keep(ordinary::from_stars(n, &job.table, &job.stars), n, room),
+        "is_simplest" => match ordinary::is_simplest(n, &job.table, &job.asked) {
+            Ok(yes) => {
+                room.yes = yes as u8;
+                0
+            }
+            Err(number) => number,
+        },
+        "print" => {
+            ordinary::print(&job.sheet, &mut room.text);
+            room.line = room.text.len();
+            room.out[..room.line].copy_from_slice(&room.text);
+            0
+        }
         "read_sheet" => match ordinary::read(&job.sheet) {
             Ok(sheet) => {
                 room.n = sheet.n;
@@ -231,6 +255,7 @@ fn agree(call: &str, jobs: &[Job]) {
         let status = library(call, job, &mut one);
         assert_eq!((status, ordinary_call(call, job, &mut other)), (0, 0), "{call} refused {:?}", job.table);
         assert!(one.adds == other.adds && one.stars == other.stars && one.heads == other.heads && one.sum == other.sum);
+        assert!(one.yes == other.yes);
         assert!(one.table == other.table && one.rows == other.rows && one.cols == other.cols && one.n == other.n);
         assert!(one.out == other.out && one.line == other.line);
     }
@@ -290,7 +315,8 @@ fn print_times(calls: &[&str]) {
     }
 }
 
-/// The stack that a call uses at most: the room below this function's own frame is painted, and after the call the lowest byte that changed is sought.
+/// The stack that a call uses at most: the room below this function's own frame is painted, and after the call the lowest
+/// byte that changed is sought.
 #[inline(never)]
 fn stack_of(call: &str, job: &Job, room: &mut Room) -> usize {
     const DEPTH: usize = 256 * 1024;

@@ -203,6 +203,21 @@ pub fn solve(n: usize, table: &[i16]) -> Result<Answer, u32> {
 /// Route 2: from additions that are a canon.
 #[inline(never)]
 pub fn from_canon(n: usize, table: &[i16], given: &[u32]) -> Result<Answer, u32> {
+    let columns = maxima_columns(n, table, given)?;
+    let additions = fixed_point(n, table, &columns).ok_or(7u32)?;
+    Ok(complete(n, table, additions, columns))
+}
+
+/// Are additions that are a canon the simplest one?
+#[inline(never)]
+pub fn is_simplest(n: usize, table: &[i16], given: &[u32]) -> Result<bool, u32> {
+    let columns = maxima_columns(n, table, given)?;
+    let additions = fixed_point(n, table, &columns).ok_or(7u32)?;
+    Ok(additions[..n] == *given)
+}
+
+/// The columns of some transversal of column maxima under additions, which are a canon if there is one.
+fn maxima_columns(n: usize, table: &[i16], given: &[u32]) -> Result<[usize; ROWS], u32> {
     check(n, table)?;
     if given.len() != n {
         return Err(2);
@@ -214,11 +229,7 @@ pub fn from_canon(n: usize, table: &[i16], given: &[u32]) -> Result<Answer, u32>
     additions[..n].copy_from_slice(given);
     let heads = heads_of(n, table, &additions);
     let bits = maxima(n, table, &additions, &heads);
-    let Some(columns) = matching(n, &bits) else {
-        return Err(if assignment(n, table).is_some() { 7 } else { 6 });
-    };
-    let additions = fixed_point(n, table, &columns).ok_or(7u32)?;
-    Ok(complete(n, table, additions, columns))
+    matching(n, &bits).ok_or_else(|| if assignment(n, table).is_some() { 7 } else { 6 })
 }
 
 fn matching(n: usize, bits: &[u32; ROWS]) -> Option<[usize; ROWS]> {
@@ -423,4 +434,49 @@ pub fn write(n: usize, table: &[i16], rows: &[u8], cols: &[u8], room: usize, out
         }
     }
     if out.len() > room { Err(12) } else { Ok(out.len()) }
+}
+
+fn put_section(out: &mut Vec<u8>, name: &[u8], values: impl ExactSizeIterator<Item = i32>) {
+    out.extend_from_slice(name);
+    put_number(out, values.len());
+    out.push(b'\n');
+    for value in values {
+        if value < 0 {
+            out.push(b'-');
+        }
+        put_number(out, value.unsigned_abs() as usize);
+        out.push(b'\n');
+    }
+}
+
+fn put_refusal(out: &mut Vec<u8>, number: usize, line: Option<usize>) {
+    out.extend_from_slice(b"refused ");
+    put_number(out, number);
+    if let Some(line) = line {
+        out.push(b' ');
+        put_number(out, line);
+    }
+    out.push(b'\n');
+}
+
+/// The printed answer to a sheet, into the buffer given, which is emptied first.
+#[inline(never)]
+pub fn print(sheet: &[u8], out: &mut Vec<u8>) {
+    out.clear();
+    let sheet = match read(sheet) {
+        Ok(sheet) => sheet,
+        Err(0) => return put_refusal(out, 9, None),
+        Err(line) => return put_refusal(out, 10, Some(line)),
+    };
+    let n = sheet.n;
+    match solve(n, &sheet.table[..n * n]) {
+        Ok(answer) => {
+            put_section(out, b"adds ", answer.additions[..n].iter().map(|&a| a as i32));
+            put_section(out, b"stars ", answer.stars[..n].iter().map(|&j| j as i32));
+            put_section(out, b"heads ", answer.heads[..n].iter().copied());
+            put_section(out, b"sum ", [answer.sum].into_iter());
+            put_section(out, b"index ", answer.additions[..n].iter().max().map(|&a| a as i32).into_iter());
+        }
+        Err(number) => put_refusal(out, number as usize, None),
+    }
 }

@@ -13,9 +13,10 @@
  * (one for each column) are the largest raised orders. The sum is the total of the starred orders as they stand in the
  * table: the count of starting values. The index figure is the largest addition.
  *
- * SLICES. Each slice is two arguments: a pointer, then the number of its elements (not of its bytes). A pointer is
- * never NULL and is aligned for its type, also where the number is 0, and a slice that a call writes overlaps no other.
- * Nothing else is asked of a caller: sizes, lengths and contents are tested by the calls themselves.
+ * SLICES AND SINGLE RESULTS. Each slice is two arguments: a pointer, then the number of its elements (not of its bytes).
+ * A single result is a pointer alone. A pointer is never NULL and is aligned for its type, also where the number is 0.
+ * No slice and no single result that a call writes may overlap anything else handed over, other single results among
+ * them. Nothing else is asked of a caller: sizes, lengths and contents are tested by the calls themselves.
  *
  * RESULTS. A call returns 0, or the number of a refusal from the table below. On 0 the slices and the single results
  * are written; on a refusal every lent slice and every single result holds what it held before (but for `line` of

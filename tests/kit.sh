@@ -60,14 +60,28 @@ link_all() { # FROM TO BUT
 }
 
 # Compiles a C file for x86-64 and links it with the archive of the kit.
-build_c() { # FILE.c PROGRAM
+build_c() { # FILE.c PROGRAM [FLAGS..]
+    local file=$1 program=$2
+    shift 2
     if [ "$machine" = x86_64 ]; then
-        cc -std=c11 -Wall -Wextra -O2 -Iinclude "$1" target/staticlib/libexports.a -o "$2"
+        cc -std=c11 -Wall -Wextra -O2 -Iinclude "$@" "$file" target/staticlib/libexports.a -o "$program"
         return
     fi
-    "$tools/bin/clang" --target=x86_64-unknown-linux-gnu -std=c11 -Wall -Wextra -O2 -fPIC -Iinclude -isystem tests/headers -c "$1" -o "$2.o"
-    "$kit/on/$machine/bin/rattle-link" --target x86_64-unknown-linux-gnu --toolchain "$tools" -o "$2" "$2.o" target/staticlib/libexports.a 2>"$2.log" \
-        || { cat "$2.log"; return 1; }
+    "$tools/bin/clang" --target=x86_64-unknown-linux-gnu -std=c11 -Wall -Wextra -O2 -fPIC -Iinclude -isystem tests/headers "$@" -c "$file" -o "$program.o"
+    "$kit/on/$machine/bin/rattle-link" --target x86_64-unknown-linux-gnu --toolchain "$tools" -o "$program" "$program.o" target/staticlib/libexports.a \
+        2>"$program.log" || { cat "$program.log"; return 1; }
+}
+
+# Compiles a C file as C++, and runs it where a C++ compiler can link it: the kit's clang, which serves Arm, has no library of C++.
+check_cpp() { # FILE.c PROGRAM [FLAGS..]
+    local file=$1 program=$2
+    shift 2
+    if [ "$machine" = x86_64 ]; then
+        c++ -x c++ -std=c++11 -Wall -Wextra -pedantic -O2 -Iinclude "$@" "$file" -x none target/staticlib/libexports.a -o "$program"
+        "$program"
+    else
+        "$tools/bin/clang" --target=x86_64-unknown-linux-gnu -x c++ -std=c++11 -Wall -Wextra -pedantic -fsyntax-only -Iinclude -isystem tests/headers "$@" "$file"
+    fi
 }
 
 # The words that run a program for x86-64, in the array `runner`.

@@ -1,5 +1,6 @@
 pub mod Refusing
 pub mod Answering
+pub mod Solving
 pub mod Unique
 pub mod Theorems
 pub mod Demands

@@ -1,27 +1,30 @@
 -- Which refusal is the first that applies, from what the tests told. Assumes nothing.
 use mathlib.Core.Path.{_≡_, refl, sym, _∙_, ap}
 use mathlib.Core.Logic.{inl, inr}
-use mathlib.Core.Bool.{true, false}
+use mathlib.Core.Bool.{Bool, true, false}
 use mathlib.Core.List.{List, [], _∷_}
-use Prim.Native.Nat.{ℕ, _≤_, _<_}
+use Prim.Native.Nat.{ℕ}
 use native.Mathlib.Omega.{arith}
 use lib.IntN.{ℤ}
 use lib.ListN.{length}
-use Rattle.theory.specs.Limits.{handed}
-use Rattle.theory.specs.Lists.{nums}
+use Rattle.theory.specs.Lists.{nums, columns}
 use Rattle.theory.specs.Table.{entry}
-use Rattle.theory.specs.Canon.{Transversal, Canon, Simplest}
-use Rattle.orders.specs.Places.{Marks}
-use Rattle.orders.specs.Refusals.{numberOf, Test, First, Clear, WrongLength, RightLengths, gives, refuses}
-use Rattle.orders.proofs.Refusals.{right-not-wrong, right-lengths}
+use Rattle.theory.specs.Canon.{Misplaced}
+use Rattle.theory.proofs.Unique.{misplaced-same}
+use Rattle.orders.specs.Refusals.{numberOf, Test, First, Clear, WrongLength, RightLengths, refuses}
 use Rattle.orders.specs.declared.Refusal.{Refusal}
-use Rattle.handed.specs.Conditions.{each, slices, basic, canon-more, canon-tests}
-use Rattle.handed.specs.Handed.{Sound, Basic}
-use Rattle.handed.proofs.Basics.{entries-right, additions-right}
+use Rattle.orders.specs.declared.Refusal.the-variants.{Addition, StarList, NoTransversal, NoCanon, NotGreatest}
+use Rattle.orders.proofs.Refusals.{right-not-wrong, right-lengths}
+use Rattle.handed.specs.Conditions.{each, slices, basic, canon-more, canon-tests, star-more, star-tests}
+use Rattle.handed.specs.Handed.{Sound, Basic, WithinAs, ListedAs}
 use Rattle.handed.specs.declared.FirstTests.{FirstTests}
 use Rattle.handed.specs.declared.FirstTests.the-variants as tests
+use Rattle.handed.specs.declared.Listed.{Listed}
+use Rattle.handed.proofs.Basics.{entries-right, additions-right, stars-right}
 use Rattle.outcome.specs.Completion.{Lent}
-use Rattle.routes.specs.Routes.{GivenAdditions, GivenColumns}
+use Rattle.routes.specs.Routes.{GivenAdditions, ReducedFrom, GivenColumns, RaisedFrom}
+use Rattle.routes.specs.declared.Reduced.{Reduced}
+use Rattle.routes.specs.declared.Raised.{Raised}
 use Rattle.canon.specs.Answers.{said, judged}
 use Rattle.canon.specs.Promises.{Routed, refused, Judges, declines, says-yes, says-no}
 use Rattle.canon.specs.declared.Answer.{Answer}
@@ -93,7 +96,8 @@ module _ {n : ℕ} {t : List ℤ} {ks : List ℕ} {r : FirstTests} (b : Basic n 
       let p = b .refused q e in
       refused (numberOf q) (first-of-all n t ks more (numberOf q) (p .0)) (ap (refuses (numberOf q)) (p .1)) refl refl refl
 
-pub decline-first : {n : ℕ} {t : List ℤ} {given : List ℕ} {r : FirstTests} → Basic n t (length given ∷ []) r → (q : Refusal) → r ≡ tests.Refused q → Judges n t given (verdict.Refused q)
+pub decline-first : {n : ℕ} {t : List ℤ} {given : List ℕ} {r : FirstTests} → Basic n t (length given ∷ []) r → (q : Refusal) → r ≡ tests.Refused q
+    → Judges n t given (verdict.Refused q)
 decline-first {n} {t} {given} b q e =
     let p = b .refused q e in
     declines (numberOf q) (first-of-all n t (length given ∷ []) (canon-more n t given) (numberOf q) (p .0)) (ap (refuses (numberOf q)) (p .1))
@@ -111,40 +115,102 @@ module _ {n : ℕ} {t : List ℤ} {ks : List ℕ} (s : Sound n t ks) where
       → Routed (basic n t ks more) n t adds stars heads a adds stars heads
   refuse-later {more = more} k l says = refused k (past-first more k l) says refl refl refl
 
--- ---- the yes-or-no
--- none of its tests applies, if the additions are within the limit and a canon, and a transversal exists
-judging : {n : ℕ} {t : List ℤ} (given : List ℕ) → Sound n t (length given ∷ []) → ((i : ℕ) → i < length given → nums given i ≤ handed)
-    → (σ : ℕ → ℕ) × Transversal n (entry t n) σ → Canon n (entry t n) (nums given) → Clear (canon-tests n t given (length given ∷ []))
-judging {n} {t} given s low e c =
-    past-clear s (canon-more n t given) (additions-right low, ((λ none. none (e .0) (e .1)), ((λ wrong. wrong c), tt)))
+-- ---- additions handed in: each later test, where those before it do not apply
+module _ (n : ℕ) (t : List ℤ) {given : List ℕ} {b : Bool} (a : WithinAs given b) where
+  canon-4 : b ≡ false → First (canon-more n t given) 4
+  canon-4 e = inl (a .above e, refl)
 
-module _ {n : ℕ} {t : List ℤ} {given : List ℕ} {v : Verdict} (s : Sound n t (length given ∷ [])) where
-  pub decline-later : (k : ℕ) → First (canon-more n t given) k → judged v ≡ refuses k [] → Judges n t given v
+  module _ (low : b ≡ true) {r : Reduced} (f : ReducedFrom t n given r) where
+    canon-6 : r .found ≡ false → First (canon-more n t given) 6
+    canon-6 e = inr (additions-right (a .within low), inl (f .none e, refl))
+
+    module _ (found : r .found ≡ true) where
+      canon-7 : r .canon ≡ false → First (canon-more n t given) 7
+      canon-7 e = inr (additions-right (a .within low), inr ((λ none. none _ (f .exists found .1)), inl (f .no-canon found e, refl)))
+
+      pub canon-passed : r .canon ≡ true → Clear (canon-more n t given)
+      canon-passed e = (additions-right (a .within low), ((λ none. none _ (f .exists found .1)), ((λ no-one. no-one (f .is-canon e)), tt)))
+
+-- route 2
+module _ {n : ℕ} {t : List ℤ} {given ks adds stars : List ℕ} {heads : List ℤ} {b : Bool} (s : Sound n t ks) (a : WithinAs given b) where
+  pub refuse-addition : b ≡ false → Routed (canon-tests n t given ks) n t adds stars heads (Refused Addition) adds stars heads
+  refuse-addition e = refuse-later s 4 (canon-4 n t a e) refl
+
+  module _ (low : b ≡ true) {r : Reduced} (f : ReducedFrom t n given r) where
+    pub refuse-table : r .found ≡ false → Routed (canon-tests n t given ks) n t adds stars heads (Refused NoTransversal) adds stars heads
+    refuse-table e = refuse-later s 6 (canon-6 n t a low f e) refl
+
+    pub refuse-no-canon : r .found ≡ true → r .canon ≡ false → Routed (canon-tests n t given ks) n t adds stars heads (Refused NoCanon) adds stars heads
+    refuse-no-canon found e = refuse-later s 7 (canon-7 n t a low f found e) refl
+
+-- and the yes-or-no
+module _ {n : ℕ} {t : List ℤ} {given : List ℕ} {b : Bool} (s : Sound n t (length given ∷ [])) (a : WithinAs given b) where
+  decline-later : {v : Verdict} (k : ℕ) → First (canon-more n t given) k → judged v ≡ refuses k [] → Judges n t given v
   decline-later k l says = declines k (past-first s (canon-more n t given) k l) says
 
-  module _ (low : (i : ℕ) → i < length given → nums given i ≤ handed) (e : (σ : ℕ → ℕ) × Transversal n (entry t n) σ) (c : Canon n (entry t n) (nums given)) where
-    pub judge-yes : judged v ≡ gives true → Simplest n (entry t n) (nums given) → Judges n t given v
-    judge-yes says = says-yes (judging given s low e c) says
+  pub decline-addition : b ≡ false → Judges n t given (verdict.Refused Addition)
+  decline-addition e = decline-later 4 (canon-4 n t a e) refl
 
-    pub judge-no : judged v ≡ gives false → (Simplest n (entry t n) (nums given) → ⊥) → Judges n t given v
-    judge-no says = says-no (judging given s low e c) says
+  module _ (low : b ≡ true) {r : Reduced} (f : ReducedFrom t n given r) where
+    pub decline-table : r .found ≡ false → Judges n t given (verdict.Refused NoTransversal)
+    decline-table e = decline-later 6 (canon-6 n t a low f e) refl
+
+    module _ (found : r .found ≡ true) where
+      pub decline-no-canon : r .canon ≡ false → Judges n t given (verdict.Refused NoCanon)
+      decline-no-canon e = decline-later 7 (canon-7 n t a low f found e) refl
+
+      module _ (canon : r .canon ≡ true) where
+        pub judge-yes : r .unchanged ≡ true → Judges n t given verdict.Yes
+        judge-yes e = says-yes (past-clear s (canon-more n t given) (canon-passed n t a low f found canon)) refl (f .judged canon .holds e)
+
+        pub judge-no : r .unchanged ≡ false → Judges n t given verdict.No
+        judge-no e = says-no (past-clear s (canon-more n t given) (canon-passed n t a low f found canon)) refl (f .judged canon .fails e)
+
+-- ---- stars handed in: the same
+module _ {n : ℕ} {t : List ℤ} {given ks adds stars : List ℕ} {heads : List ℤ} {l : Listed} (s : Sound n t ks) (m : ListedAs n given l) where
+  pub refuse-stars : l .stands ≡ false → Routed (star-tests n t given ks) n t adds stars heads (Refused StarList) adds stars heads
+  refuse-stars e = refuse-later s 5 (inl (m .wrong e, refl)) refl
+
+  module _ (stands : l .stands ≡ true) {r : Raised} (f : RaisedFrom t n (l .columns) r) where
+    pub refuse-star-table : r .found ≡ false → Routed (star-tests n t given ks) n t adds stars heads (Refused NoTransversal) adds stars heads
+    refuse-star-table e = refuse-later s 6 (inr (stars-right (m .star-list stands), inl (f .none e, refl))) refl
+
+    pub refuse-not-greatest : r .found ≡ true → r .greatest ≡ false
+        → Routed (star-tests n t given ks) n t adds stars heads (Refused NotGreatest) adds stars heads
+    refuse-not-greatest found e =
+        refuse-later s 8
+        (inr (stars-right (m .star-list stands), inr ((λ none. none _ (f .exists found .1)), inl (misplaced (f .misplaced found e), refl)))) refl
+      where
+        misplaced : Misplaced n (entry t n) (nums (l .columns)) → Misplaced n (entry t n) (columns given)
+        misplaced w = misplaced-same n (entry t n) (m .same stands) w
+
+pub stars-passed : (n : ℕ) (t : List ℤ) {given : List ℕ} {l : Listed} {r : Raised} → ListedAs n given l → l .stands ≡ true
+    → RaisedFrom t n (l .columns) r → r .greatest ≡ true → Clear (star-more n t given)
+stars-passed n t m stands f e = (
+  stars-right (m .star-list stands),
+  ((λ none. none _ (f .of-maxima e .transversal)), ((λ w. f .placed e (misplaced-same n (entry t n) (λ i hi. sym (m .same stands i hi)) w)), tt)),
+)
 
 -- ---- what later calls are given
 -- the lent slices have a place for each row
 pub lent : {n : ℕ} {adds stars : List ℕ} {heads : List ℤ} → RightLengths (each n (length adds ∷ length stars ∷ length heads ∷ [])) → Lent n adds stars heads
 lent f = record { adds-long = f .0; stars-long = f .1 .0; heads-long = f .1 .1 .0 }
 
-pub given-additions : {n : ℕ} {t : List ℤ} {given : List ℕ} {ks : List ℕ} → Sound n t (length given ∷ ks)
-    → ((i : ℕ) → i < length given → nums given i ≤ handed) → GivenAdditions t n given
-given-additions s low =
-    record { square = s .square; entries = s .entries; long = s .fitting .0; limited = λ i hi. low i (omega (arith, s .fitting .0)) }
+-- additions within the limit
+pub given-additions : {n : ℕ} {t : List ℤ} {given ks : List ℕ} {b : Bool} → Sound n t (length given ∷ ks) → WithinAs given b → b ≡ true
+    → GivenAdditions t n given
+given-additions s a low =
+    let long = s .fitting .0 in
+    record { square = s .square; entries = s .entries; long = long; limited = λ i hi. a .within low i (omega (arith, long)) }
 
 -- the columns of a star list
-pub given-columns : {n : ℕ} {t : List ℤ} {ks : List ℕ} {ρ : ℕ → ℕ} {column-of : List ℕ} → Sound n t ks → Marks n ρ (nums column-of) → GivenColumns t n column-of
-given-columns {ρ = ρ} s m =
+pub given-columns : {n : ℕ} {t : List ℤ} {given ks : List ℕ} {l : Listed} → Sound n t ks → ListedAs n given l → l .stands ≡ true
+    → GivenColumns t n (l .columns)
+given-columns {l = l} s m stands =
+    let k = m .marks stands in
     record {
       square = s .square;
       entries = s .entries;
-      inside = m .column;
-      apart = λ i k hi hk e. sym (m .back i hi) ∙ ap ρ e ∙ m .back k hk;
+      inside = k .column;
+      apart = λ i j hi hj e. sym (k .back i hi) ∙ ap (nums (l .rows)) e ∙ k .back j hj;
     }

@@ -17,7 +17,8 @@ use Rattle.canon.specs.declared.Verdict.{Verdict}
 -- A route's call. Either some refusal that concerns the call applies: then the first, which is the lowest, is returned and "each lent buffer then holds
 -- what it held at the call". Or none does: then the sum is returned, and the lent slices hold the simplest canon, the stars and
 -- the heads.
-pub data Routed (tests : List Test) (n : ℕ) (t : List ℤ) (adds stars : List ℕ) (heads : List ℤ) (r : Answer) (adds′ stars′ : List ℕ) (heads′ : List ℤ) : Type 0 where
+pub data Routed (tests : List Test) (n : ℕ) (t : List ℤ) (adds stars : List ℕ) (heads : List ℤ) (r : Answer) (adds′ stars′ : List ℕ)
+    (heads′ : List ℤ) : Type 0 where
   refused : (k : ℕ) → First tests k → said r ≡ refuses k [] → adds′ ≡ adds → stars′ ≡ stars → heads′ ≡ heads
       → Routed tests n t adds stars heads r adds′ stars′ heads′
   answered : (s : ℤ) → Clear tests → said r ≡ gives s → length adds′ ≡ n → StarList n stars′ → length heads′ ≡ n

@@ -1,3 +1,5 @@
+ghost use Rattle.growth.specs.Grown.{Startable};
+ghost use Rattle.canon.specs.Solving.{SolvedFrom, Same};
 ghost use Rattle.canon.specs.Promises.{Solves, FromCanon, FromStars, Judges};
 use growth::grow;
 use handed::FirstTests;
@@ -6,7 +8,10 @@ use handed::listed_marks;
 use handed::tested;
 use orders::ROWS;
 use orders::Refusal;
+use outcome::Whole;
+use outcome::completed;
 use outcome::delivered;
+use outcome::hand_out;
 use routes::from_additions;
 use routes::from_columns;
 
@@ -23,6 +28,64 @@ pub enum Verdict {
     Refused(Refusal),
 }
 
+// What comes of a table and a start: whether a complete transversal exists, and then the least canon from the start with its stars
+// (columns from 1), heads and sum.
+pub struct Findings {
+    pub found: bool,
+    pub additions: [u32; ROWS],
+    pub stars: [u32; ROWS],
+    pub heads: [i32; ROWS],
+    pub sum: i32,
+}
+
+// The solver between the tests and the handing out, by value. Rules out a canon that is not the least from the start, stars that are
+// not the first, heads or a sum of other additions, and an answer either way that is not so.
+pub fn solved(n: usize, table: &[i16], start: [u32; ROWS]) -> Findings
+    requires { ⌜ Startable (now table) n start ⌝ }
+    ensures { λ r. ⌜ SolvedFrom (now (table .entry)) n start r ⌝ }
+{
+    let grown = grow(n, table, start);
+    let additions = grown.additions;
+    if !grown.found {
+        return Findings {
+            found: false,
+            additions,
+            stars: [0u32; ROWS],
+            heads: [0i32; ROWS],
+            sum: 0,
+        };
+    }
+    let rows = grown.rows;
+    let columns = grown.columns;
+    let whole = completed(n, table, additions, rows, columns);
+    let stars = whole.stars;
+    let heads = whole.heads;
+    let sum = whole.sum;
+    Findings {
+        found: true,
+        additions,
+        stars,
+        heads,
+        sum,
+    }
+}
+
+// What was found, as it is handed out. Rules out one list taken for another.
+fn whole_of(findings: Findings) -> Whole
+    ensures { λ r. ⌜ Same findings r ⌝ }
+{
+    let additions = findings.additions;
+    let stars = findings.stars;
+    let heads = findings.heads;
+    let sum = findings.sum;
+    Whole {
+        additions,
+        stars,
+        heads,
+        sum,
+    }
+}
+
 // Route 1: the simplest canon of a table, with stars and heads, into the lent slices. Rules out additions that are no canon, or a
 // canon with a smaller one beside it in some row; stars that are not the first; a sum that is not the stars'; a refusal but the
 // lowest that applies; and a byte written where a refusal is given.
@@ -33,20 +96,20 @@ pub fn solve(
     stars: &mut [u32],
     heads: &mut [i32],
 ) -> Answer
-    ensures { λ r. ⌜ Solves n (now (table .entry)) (now (adds .entry)) (now (stars .entry)) (now (heads .entry)) r (now (adds .exit)) (now (stars .exit)) (now (heads .exit)) ⌝ }
+    ensures { λ r. ⌜ Solves n (now (table .entry)) (now (adds .entry)) (now (stars .entry)) (now (heads .entry)) r
+        (now (adds .exit)) (now (stars .exit)) (now (heads .exit)) ⌝ }
 {
     let first = tested(n, table, n, adds.len(), stars.len(), heads.len());
     if let FirstTests::Refused(refusal) = first {
         return Answer::Refused(refusal);
     }
-    let grown = grow(n, table, [0u32; ROWS]);
-    if !grown.found {
+    let findings = solved(n, table, [0u32; ROWS]);
+    if !findings.found {
         return Answer::Refused(Refusal::NoTransversal);
     }
-    let additions = grown.additions;
-    let rows = grown.rows;
-    let columns = grown.columns;
-    Answer::Sum(delivered(n, table, additions, rows, columns, adds, stars, heads))
+    let sum = findings.sum;
+    hand_out(whole_of(findings), adds, stars, heads);
+    Answer::Sum(sum)
 }
 
 // Route 2: the same from additions that are a canon. Rules out what `solve` rules out, the additions handed back as they came,
@@ -59,7 +122,8 @@ pub fn from_canon(
     stars: &mut [u32],
     heads: &mut [i32],
 ) -> Answer
-    ensures { λ r. ⌜ FromCanon n (now (table .entry)) (now (given .entry)) (now (adds .entry)) (now (stars .entry)) (now (heads .entry)) r (now (adds .exit)) (now (stars .exit)) (now (heads .exit)) ⌝ }
+    ensures { λ r. ⌜ FromCanon n (now (table .entry)) (now (given .entry)) (now (adds .entry)) (now (stars .entry)) (now (heads .entry)) r
+        (now (adds .exit)) (now (stars .exit)) (now (heads .exit)) ⌝ }
 {
     let first = tested(n, table, given.len(), adds.len(), stars.len(), heads.len());
     if let FirstTests::Refused(refusal) = first {
@@ -91,7 +155,8 @@ pub fn from_stars(
     stars: &mut [u32],
     heads: &mut [i32],
 ) -> Answer
-    ensures { λ r. ⌜ FromStars n (now (table .entry)) (now (given .entry)) (now (adds .entry)) (now (stars .entry)) (now (heads .entry)) r (now (adds .exit)) (now (stars .exit)) (now (heads .exit)) ⌝ }
+    ensures { λ r. ⌜ FromStars n (now (table .entry)) (now (given .entry)) (now (adds .entry)) (now (stars .entry)) (now (heads .entry)) r
+        (now (adds .exit)) (now (stars .exit)) (now (heads .exit)) ⌝ }
 {
     let first = tested(n, table, given.len(), adds.len(), stars.len(), heads.len());
     if let FirstTests::Refused(refusal) = first {

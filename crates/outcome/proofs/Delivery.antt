@@ -15,7 +15,8 @@ use Rattle.outcome.specs.Completion.{Settled, Lent, WholeOf, HandedOut, 
 use Rattle.outcome.specs.declared.Whole.{Whole}
 
 -- stars from 1 whose columns, from 0, are those of the first transversal are a star list
-star-list : {n : ℕ} {a : ℕ → ℕ → ℤ} {l : ℕ → ℕ} {s : List ℕ} → length s ≡ n → ((i : ℕ) → i < n → 1 ≤ nums s i) → Stars n a l (columns s) → StarList n s
+pub star-list : {n : ℕ} {a : ℕ → ℕ → ℤ} {l : ℕ → ℕ} {s : List ℕ} → length s ≡ n → ((i : ℕ) → i < n → 1 ≤ nums s i) → Stars n a l (columns s)
+    → StarList n s
 star-list long one st =
     let t = st .of-maxima .transversal in
     record {

@@ -102,7 +102,7 @@ pub struct Whole {
 
 // The whole answer of a canon, from the marks of any complete transversal of its column maxima. Rules out stars that are not the
 // first, and heads or a sum of other additions.
-fn completed(
+pub fn completed(
     n: usize,
     table: &[i16],
     additions: [u32; ROWS],
@@ -126,7 +126,7 @@ fn completed(
 
 // The whole answer copied out into the lent slices, which have a place for each row. Rules out a list copied into another's
 // slice.
-fn hand_out(answer: Whole, adds: &mut [u32], stars: &mut [u32], heads: &mut [i32])
+pub fn hand_out(answer: Whole, adds: &mut [u32], stars: &mut [u32], heads: &mut [i32])
     requires { ⌜ (length (now adds) ≤ rows) × (length (now stars) ≤ rows) × (length (now heads) ≤ rows) ⌝ }
     ensures { λ _. ⌜ HandedOut answer (now (adds .entry)) (now (stars .entry)) (now (heads .entry)) (now (adds .exit)) (now (stars .exit)) (now (heads .exit)) ⌝ }
 {

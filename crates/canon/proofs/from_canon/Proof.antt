@@ -1,6 +1,5 @@
 -- Route 2 keeps its promise. Assumes nothing.
-use mathlib.Core.Path.{refl, ap}
-use mathlib.Core.Logic.{inl, inr}
+use mathlib.Core.Path.{ap}
 use mathlib.Core.List.{[], _∷_}
 use borrow.Author.Needs.{needs, sfits-of}
 use borrow.Author.Tests.{not-true, not-false}
@@ -10,8 +9,7 @@ use mir.Syntax.{w32}
 use mir.Facts.{toZ-ofZ}
 use Rattle.orders.specs.Refusals.{gives}
 use Rattle.handed.specs.Handed.{Sound}
-use Rattle.handed.proofs.Basics.{additions-right}
-use Rattle.canon.proofs.Refusing.{refuse-first, refuse-later, lent, given-additions}
+use Rattle.canon.proofs.Refusing.{refuse-first, refuse-addition, refuse-table, refuse-no-canon, canon-passed, lent, given-additions}
 use Rattle.canon.proofs.Answering.{routed}
 use Rattle.canon.proofs.from_canon.Statement.{statement}
 use Rattle.canon.proofs.from_canon.Tie as tie
@@ -29,34 +27,36 @@ enum-told : tie.Need-enum-told
 enum-told c = search needs
 
 -- past the first three tests
-passed : (c : tie.After-enum-told) → Sound (c .before .before .before .before .before .before .args .n) (now (c .before .before .before .before .before .before .args .table)) (length (now (c .before .before .before .before .before .before .args .given)) ∷ length (now (c .before .before .before .before .before .before .args .adds)) ∷ length (now (c .before .before .before .before .before .before .args .stars)) ∷ length (now (c .before .before .before .before .before .before .args .heads)) ∷ [])
-passed c = (c .before .before .tested .ensures) .passed (c .enum-told .given .1)
+abbrev Passed : tie.After-enum-told → Type 0
+Passed c =
+    let a = c .before .before .before .before .before .before .args in
+    Sound (a .n) (now (a .table)) (length (now (a .given)) ∷ length (now (a .adds)) ∷ length (now (a .stars)) ∷ length (now (a .heads)) ∷ [])
+
+passed : (c : tie.After-enum-told) → Passed c
+passed c = c .before .before .tested .ensures .passed (c .enum-told .given .1)
 
 additions-stand-requires : tie.Need-additions-stand-requires
 additions-stand-requires c κs = search needs
 
 returns-2 : tie.Need-returns-2
-returns-2 c = refuse-later (passed (c .before .before)) 4 (inl (c .before .additions-stand .ensures .above (not-true _ (c .if1 .taken)), refl)) refl
+returns-2 c = refuse-addition (passed (c .before .before)) (c .before .additions-stand .ensures) (not-true _ (c .if1 .taken))
 
 from-additions-requires : tie.Need-from-additions-requires
-from-additions-requires c κs = given-additions (passed (c .before .before)) (c .before .additions-stand .ensures .within (not-false _ (c .if1 .left)))
+from-additions-requires c κs =
+    given-additions (passed (c .before .before)) (c .before .additions-stand .ensures) (not-false _ (c .if1 .left))
 
 returns-3 : tie.Need-returns-3
 returns-3 c =
     let e = c .before .before .before in
-    refuse-later (passed (e .before .before)) 6
-    (inr (additions-right (e .before .additions-stand .ensures .within (not-false _ (e .if1 .left))), inl (c .before .before .from-additions .ensures .none (not-true _ (c .if2 .taken)), refl)))
-    refl
+    refuse-table (passed (e .before .before)) (e .before .additions-stand .ensures) (not-false _ (e .if1 .left))
+    (c .before .before .from-additions .ensures) (not-true _ (c .if2 .taken))
 
 returns-4 : tie.Need-returns-4
 returns-4 c =
     let d = c .before .before in
     let e = d .before .before .before in
-    let r = d .before .before .from-additions .ensures in
-    let found = not-false _ (d .if2 .left) in
-    refuse-later (passed (e .before .before)) 7
-    (inr (additions-right (e .before .additions-stand .ensures .within (not-false _ (e .if1 .left))), inr ((λ none. none _ (r .exists found .1)), inl (r .no-canon found (not-true _ (c .if3 .taken)), refl))))
-    refl
+    refuse-no-canon (passed (e .before .before)) (e .before .additions-stand .ensures) (not-false _ (e .if1 .left))
+    (d .before .before .from-additions .ensures) (not-false _ (d .if2 .left)) (not-true _ (c .if3 .taken))
 
 delivered-requires : tie.Need-delivered-requires
 delivered-requires c κs =
@@ -81,11 +81,11 @@ returns-5 c =
     let h = p .before .before .before .before .before .before .before in
     let d = h .before .before in
     let e = d .before .before .before in
-    let r = d .before .before .from-additions .ensures in
+    let f = d .before .before .from-additions .ensures in
     let canon = not-false _ (h .if3 .left) in
     routed (passed (e .before .before))
-    (additions-right (e .before .additions-stand .ensures .within (not-false _ (e .if1 .left))), ((λ none. none _ (r .exists (not-false _ (d .if2 .left)) .1)), ((λ no-one. no-one (r .is-canon canon)), tt)))
-    (ap gives (toZ-ofZ {w = w32} {z = p .delivered .result} (sfits-of (p .delivered .ok)))) (r .least canon .simplest) (p .delivered .ensures)
+    (canon-passed _ _ (e .before .additions-stand .ensures) (not-false _ (e .if1 .left)) f (not-false _ (d .if2 .left)) canon)
+    (ap gives (toZ-ofZ {w = w32} {z = p .delivered .result} (sfits-of (p .delivered .ok)))) (f .least canon .simplest) (p .delivered .ensures)
 
 pub from-canon-spec : {M : Type 1} → statement M
 from-canon-spec =

@@ -1,6 +1,5 @@
 -- Route 3 keeps its promise. Assumes nothing.
-use mathlib.Core.Path.{refl, sym, ap}
-use mathlib.Core.Logic.{inl, inr}
+use mathlib.Core.Path.{ap}
 use mathlib.Core.List.{[], _∷_}
 use borrow.Author.Needs.{needs, sfits-of}
 use borrow.Author.Tests.{not-true, not-false}
@@ -8,11 +7,9 @@ use denote.Ref.{now}
 use lib.ListN.{length}
 use mir.Syntax.{w32}
 use mir.Facts.{toZ-ofZ}
-use Rattle.theory.proofs.Unique.{misplaced-same}
 use Rattle.orders.specs.Refusals.{gives}
 use Rattle.handed.specs.Handed.{Sound}
-use Rattle.handed.proofs.Basics.{stars-right}
-use Rattle.canon.proofs.Refusing.{refuse-first, refuse-later, lent, given-columns}
+use Rattle.canon.proofs.Refusing.{refuse-first, refuse-stars, refuse-star-table, refuse-not-greatest, stars-passed, lent, given-columns}
 use Rattle.canon.proofs.Answering.{routed}
 use Rattle.canon.proofs.from_stars.Statement.{statement}
 use Rattle.canon.proofs.from_stars.Tie as tie
@@ -30,38 +27,37 @@ enum-told : tie.Need-enum-told
 enum-told c = search needs
 
 -- past the first three tests
-passed : (c : tie.After-enum-told) → Sound (c .before .before .before .before .before .before .args .n) (now (c .before .before .before .before .before .before .args .table)) (length (now (c .before .before .before .before .before .before .args .given)) ∷ length (now (c .before .before .before .before .before .before .args .adds)) ∷ length (now (c .before .before .before .before .before .before .args .stars)) ∷ length (now (c .before .before .before .before .before .before .args .heads)) ∷ [])
-passed c = (c .before .before .tested .ensures) .passed (c .enum-told .given .1)
+abbrev Passed : tie.After-enum-told → Type 0
+Passed c =
+    let a = c .before .before .before .before .before .before .args in
+    Sound (a .n) (now (a .table)) (length (now (a .given)) ∷ length (now (a .adds)) ∷ length (now (a .stars)) ∷ length (now (a .heads)) ∷ [])
+
+passed : (c : tie.After-enum-told) → Passed c
+passed c = c .before .before .tested .ensures .passed (c .enum-told .given .1)
 
 listed-marks-requires : tie.Need-listed-marks-requires
 listed-marks-requires c κs = let s = passed c in (s .square .small, s .fitting .0)
 
 returns-2 : tie.Need-returns-2
-returns-2 c = refuse-later (passed (c .before .before .before)) 5 (inl (c .before .before .listed-marks .ensures .wrong (not-true _ (c .if1 .taken)), refl)) refl
+returns-2 c = refuse-stars (passed (c .before .before .before)) (c .before .before .listed-marks .ensures) (not-true _ (c .if1 .taken))
 
 from-columns-requires : tie.Need-from-columns-requires
 from-columns-requires c κs =
     let e = c .before .before .before in
-    given-columns (passed (e .before .before .before)) (e .before .before .listed-marks .ensures .marks (not-false _ (e .if1 .left)))
+    given-columns (passed (e .before .before .before)) (e .before .before .listed-marks .ensures) (not-false _ (e .if1 .left))
 
 returns-3 : tie.Need-returns-3
 returns-3 c =
     let e = c .before .before .before .before .before .before in
-    let l = e .before .before .listed-marks .ensures in
-    refuse-later (passed (e .before .before .before)) 6
-    (inr (stars-right (l .star-list (not-false _ (e .if1 .left))), inl (c .before .before .from-columns .ensures .none (not-true _ (c .if2 .taken)), refl))) refl
+    refuse-star-table (passed (e .before .before .before)) (e .before .before .listed-marks .ensures) (not-false _ (e .if1 .left))
+    (c .before .before .from-columns .ensures) (not-true _ (c .if2 .taken))
 
 returns-4 : tie.Need-returns-4
 returns-4 c =
     let d = c .before .before in
     let e = d .before .before .before .before .before .before in
-    let l = e .before .before .listed-marks .ensures in
-    let stands = not-false _ (e .if1 .left) in
-    let found = not-false _ (d .if2 .left) in
-    let r = d .before .before .from-columns .ensures in
-    refuse-later (passed (e .before .before .before)) 8
-    (inr (stars-right (l .star-list stands), inr ((λ none. none _ (r .exists found .1)), inl (misplaced-same _ _ (l .same stands) (r .misplaced found (not-true _ (c .if3 .taken))), refl))))
-    refl
+    refuse-not-greatest (passed (e .before .before .before)) (e .before .before .listed-marks .ensures) (not-false _ (e .if1 .left))
+    (d .before .before .from-columns .ensures) (not-false _ (d .if2 .left)) (not-true _ (c .if3 .taken))
 
 delivered-requires : tie.Need-delivered-requires
 delivered-requires c κs =
@@ -69,10 +65,17 @@ delivered-requires c κs =
     let d = h .before .before in
     let e = d .before .before .before .before .before .before in
     let l = e .before .before .listed-marks .ensures in
-    let r = d .before .before .from-columns .ensures in
+    let f = d .before .before .from-columns .ensures in
     let greatest = not-false _ (h .if3 .left) in
-    let s = passed (e .before .before .before) in
-    (record { square = s .square; roomy = r .roomy greatest; of-maxima = r .of-maxima greatest; marks = l .marks (not-false _ (e .if1 .left)) }, lent (s .fitting .1))
+    let s = passed (e .before .before .before) in (
+      record {
+        square = s .square;
+        roomy = f .roomy greatest;
+        of-maxima = f .of-maxima greatest;
+        marks = l .marks (not-false _ (e .if1 .left));
+      },
+      lent (s .fitting .1),
+    )
 
 same-length : tie.Need-same-length
 same-length c = search needs
@@ -89,13 +92,11 @@ returns-5 c =
     let h = p .before .before .before .before .before in
     let d = h .before .before in
     let e = d .before .before .before .before .before .before in
-    let l = e .before .before .listed-marks .ensures in
-    let r = d .before .before .from-columns .ensures in
-    let stands = not-false _ (e .if1 .left) in
+    let f = d .before .before .from-columns .ensures in
     let greatest = not-false _ (h .if3 .left) in
     routed (passed (e .before .before .before))
-    (stars-right (l .star-list stands), ((λ none. none _ (r .of-maxima greatest .transversal)), ((λ m. r .placed greatest (misplaced-same _ _ (λ i hi. sym (l .same stands i hi)) m)), tt)))
-    (ap gives (toZ-ofZ {w = w32} {z = p .delivered .result} (sfits-of (p .delivered .ok)))) (r .simplest greatest) (p .delivered .ensures)
+    (stars-passed _ _ (e .before .before .listed-marks .ensures) (not-false _ (e .if1 .left)) f greatest)
+    (ap gives (toZ-ofZ {w = w32} {z = p .delivered .result} (sfits-of (p .delivered .ok)))) (f .simplest greatest) (p .delivered .ensures)
 
 pub from-stars-spec : {M : Type 1} → statement M
 from-stars-spec =

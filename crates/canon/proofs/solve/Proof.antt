@@ -2,17 +2,19 @@
 use mathlib.Core.Path.{refl, ap}
 use mathlib.Core.Logic.{inl}
 use mathlib.Core.List.{[], _∷_}
-use borrow.Author.Needs.{needs, sfits-of}
+use native.Mathlib.Omega.{arith}
+use borrow.Author.Needs.{needs}
 use borrow.Author.Tests.{not-true, not-false}
 use denote.Ref.{now}
 use lib.ListN.{length}
 use mir.Syntax.{w32}
+use mir.Val.{SFits}
 use mir.Facts.{toZ-ofZ}
 use Rattle.orders.specs.Refusals.{gives}
-use Rattle.orders.proofs.Zeros.{zero-start, zero-simplest}
+use Rattle.orders.proofs.Zeros.{zero-start}
 use Rattle.handed.specs.Handed.{Sound}
 use Rattle.canon.proofs.Refusing.{basic-own, refuse-first, refuse-later, lent}
-use Rattle.canon.proofs.Answering.{routed}
+use Rattle.canon.proofs.Solving.{Wide, found-routed}
 use Rattle.canon.proofs.solve.Statement.{statement}
 use Rattle.canon.proofs.solve.Tie as tie
 
@@ -29,22 +31,36 @@ enum-told : tie.Need-enum-told
 enum-told c = search needs
 
 -- past the first three tests
-passed : (c : tie.After-enum-told) → Sound (c .before .before .before .before .before .args .n) (now (c .before .before .before .before .before .args .table)) (length (now (c .before .before .before .before .before .args .adds)) ∷ length (now (c .before .before .before .before .before .args .stars)) ∷ length (now (c .before .before .before .before .before .args .heads)) ∷ [])
+abbrev Passed : tie.After-enum-told → Type 0
+Passed c =
+    let a = c .before .before .before .before .before .args in
+    Sound (a .n) (now (a .table)) (length (now (a .adds)) ∷ length (now (a .stars)) ∷ length (now (a .heads)) ∷ [])
+
+passed : (c : tie.After-enum-told) → Passed c
 passed c = basic-own (c .before .before .tested .ensures) .passed (c .enum-told .given .1)
 
-grow-requires : tie.Need-grow-requires
-grow-requires c κs = let s = passed c in record { square = s .square; entries = s .entries; handed-in = λ i hi. zero-start _ i }
+solved-requires : tie.Need-solved-requires
+solved-requires c κs = let s = passed c in record { square = s .square; entries = s .entries; handed-in = λ i hi. zero-start _ i }
 
 returns-2 : tie.Need-returns-2
 returns-2 c =
-    refuse-later (passed (c .before .before .before)) 6 (inl (c .before .before .grow .ensures .none (not-true _ (c .if1 .taken)), refl)) refl
+    refuse-later (passed (c .before .before .before)) 6 (inl (c .before .before .solved .ensures .none (not-true _ (c .if1 .taken)), refl)) refl
 
-delivered-requires : tie.Need-delivered-requires
-delivered-requires c κs =
-    let e = c .before .before .before .before .before .before in
-    let g = e .before .before .grow .ensures .found (not-false _ (e .if1 .left)) in
-    let s = passed (e .before .before .before) in
-    (record { square = s .square; roomy = g .roomy; of-maxima = g .of-maxima; marks = g .marks }, lent (s .fitting))
+-- what was found fits its types
+sum-fits : (c : tie.After-solved) → SFits w32 (c .solved .result .sum)
+sum-fits c = search needs
+
+wide : (c : tie.After-solved) → Wide (c .solved .result)
+wide c = search needs
+
+whole-of-requires : tie.Need-whole-of-requires
+whole-of-requires c κs = search needs
+
+hand-out-requires : tie.Need-hand-out-requires
+hand-out-requires c κs =
+    let s = passed (c .before .before .before .before .before .before .before .before) in
+    let few = s .square .small in
+    (omega (arith, few, s .fitting .0), omega (arith, few, s .fitting .1 .0), omega (arith, few, s .fitting .1 .1 .0))
 
 same-length : tie.Need-same-length
 same-length c = search needs
@@ -57,11 +73,15 @@ same-length-3 c = search needs
 
 returns-3 : tie.Need-returns-3
 returns-3 c =
-    let d = c .before .before .before .before .before in
-    let e = d .before .before .before .before .before .before .before in
-    let g = e .before .before .grow .ensures .found (not-false _ (e .if1 .left)) in
-    routed (passed (e .before .before .before)) ((λ none. none _ (g .of-maxima .transversal)), tt)
-    (ap gives (toZ-ofZ {w = w32} {z = d .delivered .result} (sfits-of (d .delivered .ok)))) (zero-simplest (g .least)) (d .delivered .ensures)
+    let h = c .before .before .before .before .before in
+    let w = h .before .before .before .before in
+    let e = w .before .before in
+    let d = e .before .before in
+    let s = passed (d .before) in
+    let found = d .solved .ensures .solution (not-false _ (e .if1 .left)) in
+    found-routed (now (d .before .before .before .before .before .before .args .table)) (s .square .small) (lent (s .fitting)) (wide d) (w .whole-of .ensures)
+    (h .hand-out .ensures) (d .solved .ensures .from-one (not-false _ (e .if1 .left))) found s
+    ((λ none. none _ (found .stars .of-maxima .transversal)), tt) (ap gives (toZ-ofZ (sum-fits d)))
 
 pub solve-spec : {M : Type 1} → statement M
 solve-spec =
@@ -71,9 +91,10 @@ solve-spec =
     enum-known-first
     returns
     enum-told
-    grow-requires
+    solved-requires
     returns-2
-    delivered-requires
+    whole-of-requires
+    hand-out-requires
     same-length
     same-length-2
     same-length-3

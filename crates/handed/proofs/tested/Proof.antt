@@ -46,14 +46,16 @@ returns-8 : tie.Need-returns-8
 returns-8 c =
     let b = c .before .before in
     basic-entries (b .before .before .before .before .before .before .if1 .left) (omega (arith, b .before .before .before .before .before .if2 .left))
-    (b .before .before .before .before .if3 .left) (b .before .before .before .if4 .left, (b .before .before .if5 .left, (b .before .if6 .left, (b .if7 .left, tt))))
+    (b .before .before .before .before .if3 .left)
+    (b .before .before .before .if4 .left, (b .before .before .if5 .left, (b .before .if6 .left, (b .if7 .left, tt))))
     (wrong-entry _ (c .before .entries-stand .ensures .fails (not-true _ (c .if8 .taken))))
 
 returns-9 : tie.Need-returns-9
 returns-9 c =
     let b = c .before .before in
     basic-sound (b .before .before .before .before .before .before .if1 .left) (omega (arith, b .before .before .before .before .before .if2 .left))
-    (b .before .before .before .before .if3 .left) (b .before .before .before .if4 .left, (b .before .before .if5 .left, (b .before .if6 .left, (b .if7 .left, tt))))
+    (b .before .before .before .before .if3 .left)
+    (b .before .before .before .if4 .left, (b .before .before .if5 .left, (b .before .if6 .left, (b .if7 .left, tt))))
     (c .before .entries-stand .ensures .holds (not-false _ (c .if8 .left)))
 
 pub tested-spec : {M : Type 1} → statement M

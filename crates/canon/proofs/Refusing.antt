@@ -18,7 +18,7 @@ use Rattle.handed.specs.Conditions.{Fitting, basic, canon-more, canon-tests}
 use Rattle.handed.specs.Handed.{Sound, Basic}
 use Rattle.handed.specs.declared.FirstTests.{FirstTests}
 use Rattle.handed.specs.declared.FirstTests.the-variants as tests
-use Rattle.outcome.specs.Completion.{Lent}
+use Rattle.outcome.specs.Completion.{Slices}
 use Rattle.routes.specs.Routes.{GivenAdditions, GivenColumns}
 use Rattle.canon.specs.Answers.{said, judged}
 use Rattle.canon.specs.Promises.{Routed, refused, Judges, declines, says-yes, says-no}
@@ -101,7 +101,7 @@ module _ {n : ℕ} {t : List ℤ} {given : List ℕ} {v : Verdict} (s : Sound n 
 
 -- ---- what later calls are given
 -- the lent slices have a place for each row
-pub lent : {n : ℕ} {adds stars : List ℕ} {heads : List ℤ} → Fitting n (length adds ∷ length stars ∷ length heads ∷ []) → Lent n adds stars heads
+pub lent : {n : ℕ} {adds stars : List ℕ} {heads : List ℤ} → Fitting n (length adds ∷ length stars ∷ length heads ∷ []) → Slices n adds stars heads
 lent f = record { adds-long = f .0; stars-long = f .1 .0; heads-long = f .1 .1 .0 }
 
 pub given-additions : {n : ℕ} {t : List ℤ} {given : List ℕ} {ks : List ℕ} → Sound n t (length given ∷ ks)

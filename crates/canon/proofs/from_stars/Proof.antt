@@ -71,7 +71,7 @@ delivered-requires c κs =
     let r = d .before .before .from-columns .ensures in
     let greatest = not-false _ (h .if3 .left) in
     let s = passed (e .before .before .before) in
-    (record { square = s .square; roomy = r .roomy greatest; of-maxima = r .of-maxima greatest; marks = l .marks (not-false _ (e .if1 .left)) }, lent (s .fitting .1))
+    (s .square, r .least greatest .canon, l .marks (not-false _ (e .if1 .left)), lent (s .fitting .1))
 
 same-length : tie.Need-same-length
 same-length c = search needs
@@ -93,8 +93,8 @@ returns-5 c =
     let stands = not-false _ (e .if1 .left) in
     let greatest = not-false _ (h .if3 .left) in
     routed (passed (e .before .before .before))
-    ((λ wrong. wrong (l .star-list stands)), ((λ none. none _ (r .of-maxima greatest .transversal)), ((λ m. r .placed greatest (misplaced-same _ _ (λ i hi. sym (l .same stands i hi)) m)), tt)))
-    (ap gives (toZ-ofZ {w = w32} {z = p .delivered .result} (sfits-of (p .delivered .ok)))) (r .simplest greatest) (p .delivered .ensures)
+    ((λ wrong. wrong (l .star-list stands)), ((λ none. none _ (r .least greatest .canon .of-maxima .transversal)), ((λ m. r .placed greatest (misplaced-same _ _ (λ i hi. sym (l .same stands i hi)) m)), tt)))
+    (ap gives (toZ-ofZ {w = w32} {z = p .delivered .result} (sfits-of (p .delivered .ok)))) (r .least greatest .least) (p .delivered .ensures)
 
 pub from-stars-spec : {M : Type 1} → statement M
 from-stars-spec =

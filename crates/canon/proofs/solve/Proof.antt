@@ -42,9 +42,10 @@ returns-2 c =
 delivered-requires : tie.Need-delivered-requires
 delivered-requires c κs =
     let e = c .before .before .before .before .before .before in
-    let g = e .before .before .grow .ensures .found (not-false _ (e .if1 .left)) in
+    let g = e .before .before .grow .ensures in
+    let found = not-false _ (e .if1 .left) in
     let s = passed (e .before .before .before) in
-    (record { square = s .square; roomy = g .roomy; of-maxima = g .of-maxima; marks = g .marks }, lent (s .fitting))
+    (s .square, g .found found .canon, g .marks found, lent (s .fitting))
 
 same-length : tie.Need-same-length
 same-length c = search needs
@@ -60,7 +61,7 @@ returns-3 c =
     let d = c .before .before .before .before .before in
     let e = d .before .before .before .before .before .before .before in
     let g = e .before .before .grow .ensures .found (not-false _ (e .if1 .left)) in
-    routed (passed (e .before .before .before)) ((λ none. none _ (g .of-maxima .transversal)), tt)
+    routed (passed (e .before .before .before)) ((λ none. none _ (g .canon .of-maxima .transversal)), tt)
     (ap gives (toZ-ofZ {w = w32} {z = d .delivered .result} (sfits-of (d .delivered .ok)))) (zero-simplest (g .least)) (d .delivered .ensures)
 
 pub solve-spec : {M : Type 1} → statement M

@@ -21,7 +21,7 @@ use Rattle.handed.specs.declared.FirstTests.{FirstTests}
 use Rattle.handed.specs.declared.FirstTests.the-variants as tests
 use Rattle.handed.specs.declared.Listed.{Listed}
 use Rattle.handed.proofs.Basics.{entries-right, additions-right, stars-right}
-use Rattle.outcome.specs.Completion.{Lent}
+use Rattle.outcome.specs.Completion.{Slices}
 use Rattle.routes.specs.Routes.{GivenAdditions, ReducedFrom, GivenColumns, RaisedFrom}
 use Rattle.routes.specs.declared.Reduced.{Reduced}
 use Rattle.routes.specs.declared.Raised.{Raised}
@@ -188,12 +188,13 @@ pub stars-passed : (n : ℕ) (t : List ℤ) {given : List ℕ} {l : Listed} {r :
     → RaisedFrom t n (l .columns) r → r .greatest ≡ true → Clear (star-more n t given)
 stars-passed n t m stands f e = (
   stars-right (m .star-list stands),
-  ((λ none. none _ (f .of-maxima e .transversal)), ((λ w. f .placed e (misplaced-same n (entry t n) (λ i hi. sym (m .same stands i hi)) w)), tt)),
+  ((λ none. none _ (f .least e .canon .of-maxima .transversal)), ((λ w. f .placed e (misplaced-same n (entry t n) (λ i hi. sym (m .same stands i hi)) w)), tt)),
 )
 
 -- ---- what later calls are given
 -- the lent slices have a place for each row
-pub lent : {n : ℕ} {adds stars : List ℕ} {heads : List ℤ} → RightLengths (each n (length adds ∷ length stars ∷ length heads ∷ [])) → Lent n adds stars heads
+pub lent : {n : ℕ} {adds stars : List ℕ} {heads : List ℤ} → RightLengths (each n (length adds ∷ length stars ∷ length heads ∷ []))
+    → Slices n adds stars heads
 lent f = record { adds-long = f .0; stars-long = f .1 .0; heads-long = f .1 .1 .0 }
 
 -- additions within the limit

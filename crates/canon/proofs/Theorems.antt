@@ -11,8 +11,8 @@ use lib.Seq.{ext-getD}
 use Rattle.theory.specs.Limits.{rows, order}
 use Rattle.theory.specs.Lists.{nums, ints, columns, StarList}
 use Rattle.theory.specs.Table.{entry, Entries, WithinLimit}
-use Rattle.theory.specs.Canon.{Transversal, Simplest, Greatest, Misplaced, on-absent, exceeded, Solution, sum}
-use Rattle.theory.specs.Cases.{Handed, nothing, additions, stars, Leads, SomeTransversal}
+use Rattle.theory.specs.Canon.{Transversal, SomeTransversal, Simplest, Greatest, Misplaced, on-absent, exceeded, Solution, sum}
+use Rattle.theory.specs.Cases.{Handed, nothing, additions, stars, Leads}
 use Rattle.theory.proofs.Signed.{signed, below-zero}
 use Rattle.theory.proofs.Unique.{least-once}
 use Rattle.theory.proofs.Bounds.{addition-bound, head-high, head-low, sum-high, sum-low}

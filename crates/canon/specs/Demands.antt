@@ -12,8 +12,8 @@ use lib.Signed.{_≤ℤ_}
 use Rattle.theory.specs.Limits.{rows, order, handed}
 use Rattle.theory.specs.Lists.{nums, ints, columns, StarList}
 use Rattle.theory.specs.Table.{entry, Entries}
-use Rattle.theory.specs.Canon.{Canon, Simplest, Heads, Stars, Balance}
-use Rattle.theory.specs.Cases.{Handed, nothing, additions, stars, Leads, SomeTransversal}
+use Rattle.theory.specs.Canon.{SomeTransversal, Canon, Simplest, Heads, Stars, Balance}
+use Rattle.theory.specs.Cases.{Handed, nothing, additions, stars, Leads}
 use Rattle.orders.specs.Refusals.{Test, Applies, First, Among, due, Proper, gives, refuses}
 use Rattle.handed.specs.Conditions.{TooLarge, WrongStars, NoTransversal, NoCanon, NotGreatest, table-tests, canon-tests, star-tests}
 use Rattle.canon.specs.Answers.{said, judged}

@@ -1,5 +1,5 @@
-ghost use Rattle.growth.specs.Grown.{Startable};
-ghost use Rattle.canon.specs.Solving.{SolvedFrom, Same};
+ghost use Rattle.orders.specs.Held.{Startable};
+ghost use Rattle.canon.specs.Solving.{SolvedFrom};
 ghost use Rattle.canon.specs.Promises.{Solves, FromCanon, FromStars, Judges};
 use growth::grow;
 use handed::FirstTests;
@@ -8,7 +8,7 @@ use handed::listed_marks;
 use handed::tested;
 use orders::ROWS;
 use orders::Refusal;
-use outcome::Whole;
+use outcome::WholeAnswer;
 use outcome::completed;
 use outcome::delivered;
 use outcome::hand_out;
@@ -28,14 +28,11 @@ pub enum Verdict {
     Refused(Refusal),
 }
 
-// What comes of a table and a start: whether a complete transversal exists, and then the least canon from the start with its stars
-// (columns from 1), heads and sum.
+// What comes of a table and a start: whether a complete transversal exists, and then the whole answer, the least canon from the start
+// with its stars (columns from 1), heads and sum.
 pub struct Findings {
     pub found: bool,
-    pub additions: [u32; ROWS],
-    pub stars: [u32; ROWS],
-    pub heads: [i32; ROWS],
-    pub sum: i32,
+    pub answer: WholeAnswer,
 }
 
 // The solver between the tests and the handing out, by value. Rules out a canon that is not the least from the start, stars that are
@@ -47,42 +44,23 @@ pub fn solved(n: usize, table: &[i16], start: [u32; ROWS]) -> Findings
     let grown = grow(n, table, start);
     let additions = grown.additions;
     if !grown.found {
-        return Findings {
-            found: false,
+        let answer = WholeAnswer {
             additions,
             stars: [0u32; ROWS],
             heads: [0i32; ROWS],
             sum: 0,
         };
+        return Findings {
+            found: false,
+            answer,
+        };
     }
     let rows = grown.rows;
     let columns = grown.columns;
-    let whole = completed(n, table, additions, rows, columns);
-    let stars = whole.stars;
-    let heads = whole.heads;
-    let sum = whole.sum;
+    let answer = completed(n, table, additions, rows, columns);
     Findings {
         found: true,
-        additions,
-        stars,
-        heads,
-        sum,
-    }
-}
-
-// What was found, as it is handed out. Rules out one list taken for another.
-fn whole_of(findings: Findings) -> Whole
-    ensures { λ r. ⌜ Same findings r ⌝ }
-{
-    let additions = findings.additions;
-    let stars = findings.stars;
-    let heads = findings.heads;
-    let sum = findings.sum;
-    Whole {
-        additions,
-        stars,
-        heads,
-        sum,
+        answer,
     }
 }
 
@@ -107,8 +85,9 @@ pub fn solve(
     if !findings.found {
         return Answer::Refused(Refusal::NoTransversal);
     }
-    let sum = findings.sum;
-    hand_out(whole_of(findings), adds, stars, heads);
+    let answer = findings.answer;
+    let sum = answer.sum;
+    hand_out(answer, adds, stars, heads);
     Answer::Sum(sum)
 }
 

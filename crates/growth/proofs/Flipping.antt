@@ -7,8 +7,12 @@ use native.Mathlib.Decide.{ℕ-discrete}
 use native.Mathlib.Omega.{arith}
 use lib.Dec.{T}
 use lib.IntN.{ℤ}
-use Rattle.growth.specs.Standing.{Tight, Marking, WayBack}
-use Rattle.growth.proofs.Stores.{Put, after}
+use Rattle.growth.specs.Growing.{Tight, Marking, WayBack}
+use Rattle.orders.proofs.Stores.{Put, after}
+use Rattle.theory.specs.Limits.{rows}
+use Rattle.theory.specs.Totals.{totalℕ}
+use Rattle.theory.proofs.Pigeonhole.{choose, choose-yes, choose-no}
+use Rattle.theory.proofs.Totals.{total-change}
 
 module _ {n : ℕ} {a : ℕ → ℕ → ℤ} {s : ℕ} {l : ℕ → ℕ} {h : ℕ → ℤ} {ρ κ giver : ℕ → ℕ} {end : ℕ} (w : WayBack n a s l h ρ κ giver end) where
   -- The marks ρ′ κ′ with the column j open, for which the row i will do. All rows below s have their marks, row i too, which is to
@@ -106,3 +110,18 @@ module _ {n : ℕ} {a : ℕ → ℕ → ℤ} {s : ℕ} {l : ℕ → ℕ} {h : �
                     rw (pk .off y ny) (d .0, pr .off (κ′ y) (d .1) ∙ d .2)
               ];
         }
+
+-- ---- how many places of an array are as they were: the measure of the way back
+pub still-same : (ℕ → ℕ) → (ℕ → ℕ) → ℕ
+still-same f f′ = totalℕ rows (λ x. choose (ℕ-discrete (f′ x) (f x)) 1 0)
+
+pub same-fewer : (f : ℕ → ℕ) {g g′ : ℕ → ℕ} {k v : ℕ} → k < rows → Put g g′ k v → g k ≡ f k → v ≢ f k → still-same f g′ < still-same f g
+unfolding still-same
+same-fewer f {g} {g′} {k} {v} h p e ne =
+    omega (
+      arith,
+      total-change rows (λ x. choose (ℕ-discrete (g x) (f x)) 1 0) (λ x. choose (ℕ-discrete (g′ x) (f x)) 1 0) k h
+          (λ x hx nx. ap (λ (y : ℕ). choose (ℕ-discrete y (f x)) 1 0) (p .off x nx)),
+      choose-yes (ℕ-discrete (g k) (f k)) 1 0 e,
+      choose-no (ℕ-discrete (g′ k) (f k)) 1 0 (λ q. ne (sym (p .at) ∙ q)),
+    )

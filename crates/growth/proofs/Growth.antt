@@ -12,7 +12,7 @@ use Rattle.theory.specs.Table.{Present}
 use Rattle.theory.specs.Canon.{Transversal, OfMaxima, AtMost}
 use Rattle.theory.proofs.Pigeonhole.{closed-onto, dec-flag, dec-both}
 use Rattle.theory.proofs.Signed.{plus, signed}
-use Rattle.growth.specs.Standing.{Tight, Marking, Standing}
+use Rattle.growth.specs.Growing.{Tight, Marking, Growing}
 
 -- by the value of a flag
 pub by-flag : {C : Type 0} (b : Bool) → (b ≡ true → C) → (b ≡ false → C) → C
@@ -82,9 +82,9 @@ module _ {n : ℕ} {a : ℕ → ℕ → ℤ} {s : ℕ} {l : ℕ → ℕ} {h : �
       (λ i x o hx tx tight. (hx, tx)) s (hs, t .root)
 
 -- G1: where the additions are below every canon from the start, they still are when the tree is raised by δ, if no place of the
--- tree's rows in an unreached column passes its head by that. X is the rows of the tree that would pass the canon m.
+-- tree's rows in an unset column passes its head by that. X is the rows of the tree that would pass the canon m.
 module _ {n : ℕ} {a : ℕ → ℕ → ℤ} {start : ℕ → ℕ} {s : ℕ} {l : ℕ → ℕ} {h : ℕ → ℤ} {ρ κ : ℕ → ℕ} {tree reached : ℕ → Bool} {giver : ℕ → ℕ}
-    (st : Standing n a start s l h ρ κ) (t : Tree n a s l h ρ tree reached giver) (δ : ℕ)
+    (st : Growing n a start s l h ρ κ) (t : Tree n a s l h ρ tree reached giver) (δ : ℕ)
     (clear : (i j : ℕ) → i < n → j < n → T (tree i) → reached j ≡ false → Present (a i j) → (a i j +ℤ pos (l i + δ)) ≤ℤ h j)
     (m σ : ℕ → ℕ) (of : OfMaxima n a m σ) (from : AtMost n start m) where
   low : AtMost n l m

@@ -12,17 +12,17 @@ use lib.Signed.{mag}
 use Rattle.theory.specs.Limits.{rows, order, handed}
 use Rattle.theory.specs.Lists.{nums, ints, flags}
 use Rattle.theory.specs.Table.{entry}
-use Rattle.theory.specs.Canon.{Transversal, OfMaxima, Heads}
+use Rattle.theory.specs.Canon.{OfMaxima, Heads, NoTransversal}
 use Rattle.theory.proofs.Pigeonhole.{onto}
 use Rattle.theory.proofs.Signed.{up, dn, plus, signed}
-use Rattle.orders.specs.Places.{room}
+use Rattle.orders.specs.Places.{ceiling, Marks}
 use Rattle.orders.proofs.Places.{within}
-use Rattle.growth.specs.declared.Least.{Least}
-use Rattle.growth.specs.declared.Grown.{Grown}
-use Rattle.growth.specs.Steps.{none, Long, Joining, LookedAt, Rising, RisenBy}
-use Rattle.growth.specs.Standing.{climb, Tight, Free, Flipped, Ready, Meeting}
-use Rattle.growth.specs.Grown.{Startable, Whole}
-use Rattle.growth.proofs.Stores.{Put, put-nums, put-flags, unreached, unreached-less}
+use Rattle.orders.proofs.Stores.{Put, put-nums, put-flags}
+use Rattle.orders.proofs.Flags.{unset, unset-fewer}
+use Rattle.orders.specs.Held.{Long, Startable, LeastBy}
+use Rattle.growth.specs.declared.LeastGap.{LeastGap}
+use Rattle.growth.specs.Steps.{no-gap, Joining, LookedAt, Rising, RisenBy}
+use Rattle.growth.specs.Growing.{insertion-rise, Tight, Free, Flipped, Ready, Meeting}
 use Rattle.growth.proofs.Growth.{by-flag, flag-set}
 use Rattle.growth.proofs.Insertion.{Search, Setting, search-start, search-look, search-stuck, rise-most, search-rise, rise-meets, search-way, search-join}
 
@@ -34,51 +34,51 @@ mag-small (lib.IntN.negsuc k) b p q = omega arith
 pub record Searching (t : List ℤ) (n : ℕ) (start : ℕ → ℕ) (s : ℕ) (l : List ℕ) (h : List ℤ) (ρ κ : List ℕ) (tree reached : List Bool) (gaps givers : List ℕ) (row : ℕ) : Type 0 where
   pub inside : row < n
   pub long : Long l × Long h × Long gaps × Long givers × Long tree × Long reached
-  pub search : Search n (entry t n) start s (handed + s * climb) (nums l) (ints h) (nums ρ) (nums κ) (flags tree) (flags (set tree row true)) (flags reached)
+  pub search : Search n (entry t n) start s (handed + s * insertion-rise) (nums l) (ints h) (nums ρ) (nums κ) (flags tree) (flags (set tree row true)) (flags reached)
       (nums gaps) (nums givers)
 
 module _ {t : List ℤ} {n : ℕ} {start : ℕ → ℕ} {s : ℕ} {l₀ : List ℕ} {h₀ : List ℤ} {ρ κ : List ℕ} (rd : Ready t n start s l₀ h₀ ρ κ) (hs : s < n) where
-  setting : Setting n (entry t n) start s (handed + s * climb)
+  setting : Setting n (entry t n) start s (handed + s * insertion-rise)
   setting =
       record { small = rd .square .small; inserting = hs; limits = rd .orders; handed-in = λ i hi. omega (arith, rd .handed-in i hi) }
 
   pub begin : Long l₀ → Long h₀ → {givers : List ℕ} → Long givers
-      → Searching t n start s l₀ h₀ ρ κ (replicate rows false) (replicate rows false) (replicate rows none) givers s
+      → Searching t n start s l₀ h₀ ρ κ (replicate rows false) (replicate rows false) (replicate rows no-gap) givers s
   begin el eh eg =
       record {
         inside = hs;
         long = (el, eh, refl, eg, refl, refl);
         search =
-            search-start setting (rd .standing) (rd .top) (λ i hi. getD-replicate rows i false false (omega (arith, rd .square .small)))
+            search-start setting (rd .growing) (rd .top) (λ i hi. getD-replicate rows i false false (omega (arith, rd .square .small)))
             (λ j hj. getD-replicate rows j false false (omega (arith, rd .square .small)))
-            (λ j hj. getD-replicate {A = ℕ} rows j none 0 (omega (arith, rd .square .small)))
+            (λ j hj. getD-replicate {A = ℕ} rows j no-gap 0 (omega (arith, rd .square .small)))
             (put-flags (replicate rows false) s true (omega (arith, rd .square .small)));
       }
 
   module _ {l : List ℕ} {h : List ℤ} {tree reached : List Bool} {gaps givers : List ℕ} {row : ℕ}
       (o : Searching t n start s l h ρ κ tree reached gaps givers row) where
-    addition-room : (i : ℕ) → i < n → nums l i ≤ handed + s * climb + climb
-    addition-room i hi =
-        let w = o .search .reach in
+    addition-under : (i : ℕ) → i < n → nums l i ≤ handed + s * insertion-rise + insertion-rise
+    addition-under i hi =
+        let w = o .search .heights in
         by-flag (flags (set tree row true) i) (λ e. w .inside i hi (flag-set e)) (λ e. omega (arith, w .outside i hi e))
 
     -- a head is the raised order of a marked place, or one of the start
-    head-room : (j : ℕ) → j < n → mag (ints h j) ≤ room + order
-    head-room j hj =
-        let w = o .search .standing in
+    head-under : (j : ℕ) → j < n → mag (ints h j) ≤ ceiling + order
+    head-under j hj =
+        let w = o .search .growing in
         elim (decLt (nums ρ j) n) [
           | yes m ↦
               let k = w .marking .row j hj m .2 in
               let v = rd .orders (nums ρ j) j m hj (k .present) in
-              let top = addition-room (nums ρ j) m in
+              let top = addition-under (nums ρ j) m in
               let p = plus (entry t n (nums ρ j) j) (pos (nums l (nums ρ j))) in
-              mag-small (ints h j) (room + order) (omega (arith, signed, k .is, v .high, top, p, rd .square .small))
+              mag-small (ints h j) (ceiling + order) (omega (arith, signed, k .is, v .high, top, p, rd .square .small))
               (omega (arith, signed, k .is, v .low, p))
           | no nm ↦
               let f = w .first j hj (omega arith) in
               let v = rd .orders (f .row) j (f .inside) hj (f .maximum .present) in
               let p = plus (entry t n (f .row) j) (pos (start (f .row))) in
-              mag-small (ints h j) (room + order) (omega (arith, signed, f .is, v .high, rd .handed-in (f .row) (f .inside), p))
+              mag-small (ints h j) (ceiling + order) (omega (arith, signed, f .is, v .high, rd .handed-in (f .row) (f .inside), p))
               (omega (arith, signed, f .is, v .low, p))
         ]
 
@@ -87,26 +87,26 @@ module _ {t : List ℤ} {n : ℕ} {start : ℕ → ℕ} {s : ℕ} {l₀ : List �
         record {
           square = rd .square;
           inside = o .inside;
-          fitting = λ j hj.
+          reckonable = λ j hj.
               record {
-                addition = omega (arith, addition-room row (o .inside), rd .square .small);
-                head = head-room j hj;
-                below = o .search .standing .under row j (o .inside) hj;
+                addition = omega (arith, addition-under row (o .inside), rd .square .small);
+                head = head-under j hj;
+                below = o .search .growing .under row j (o .inside) hj;
               };
           long = (o .long .2, o .long .3);
         }
 
-    module _ {g p : List ℕ} {r : Least} (k : LookedAt t n n row l h reached gaps givers g p r) where
-      looked : Search n (entry t n) start s (handed + s * climb) (nums l) (ints h) (nums ρ) (nums κ) (flags (set tree row true))
+    module _ {g p : List ℕ} {r : LeastGap} (k : LookedAt t n n row l h reached gaps givers g p r) where
+      looked : Search n (entry t n) start s (handed + s * insertion-rise) (nums l) (ints h) (nums ρ) (nums κ) (flags (set tree row true))
           (flags (set tree row true)) (flags reached) (nums g) (nums p)
       looked =
           search-look setting (o .search) (o .inside) (put-flags tree row true (omega (arith, o .inside, o .long .4, rd .square .small))) (k .ways) (k .kept)
 
       -- no way out of the tree
-      pub closed : none ≤ r .gap → (σ : ℕ → ℕ) → Transversal n (entry t n) σ → ⊥
+      pub closed : no-gap ≤ r .gap → NoTransversal n (entry t n)
       closed wide = search-stuck setting looked (r .gap) (k .least) wide
 
-      module _ (lt : r .gap < none) where
+      module _ (lt : r .gap < no-gap) where
         pub end-inside : r .column < n
         end-inside = k .column lt .0
 
@@ -117,14 +117,14 @@ module _ {t : List ℤ} {n : ℕ} {start : ℕ → ℕ} {s : ℕ} {l₀ : List �
               long = (o .long .0, o .long .1, k .long .0);
               small = rd .square .small;
               rise = omega (arith, rise-most setting looked (r .gap) (k .least) (r .column) (c .0) (c .1) (c .2) lt, rd .square .small);
-              additions = λ i hi. omega (arith, addition-room i hi, rd .square .small);
-              heads = head-room;
+              additions = λ i hi. omega (arith, addition-under i hi, rd .square .small);
+              heads = head-under;
               gap = λ j hj q.
                   by-flag (flags reached j) (λ e. absurd (omega (arith, looked .done j hj e))) (λ e. k .least j hj e);
             }
 
         module _ {l′ : List ℕ} {h′ : List ℤ} {g′ : List ℕ} (v : RisenBy n (r .gap) (set tree row true) reached l h g l′ h′ g′) where
-          risen : Search n (entry t n) start s (handed + s * climb) (nums l′) (ints h′) (nums ρ) (nums κ) (flags (set tree row true))
+          risen : Search n (entry t n) start s (handed + s * insertion-rise) (nums l′) (ints h′) (nums ρ) (nums κ) (flags (set tree row true))
               (flags (set tree row true)) (flags reached) (nums g′) (nums p)
           risen =
               let c = k .column lt in
@@ -139,11 +139,11 @@ module _ {t : List ℤ} {n : ℕ} {start : ℕ → ℕ} {s : ℕ} {l₀ : List �
           pub meeting : n ≤ nums ρ (r .column) → Meeting t n start s l′ h′ ρ κ p (r .column)
           meeting free =
               record {
-                standing = risen .standing;
+                growing = risen .growing;
                 way = search-way setting risen (r .column) end-inside (k .column lt .1) meets free;
                 top = λ i hi.
-                    by-flag (flags (set tree row true) i) (λ e. omega (arith, risen .reach .inside i hi (flag-set e)))
-                    (λ e. omega (arith, risen .reach .outside i hi e));
+                    by-flag (flags (set tree row true) i) (λ e. omega (arith, risen .heights .inside i hi (flag-set e)))
+                    (λ e. omega (arith, risen .heights .outside i hi e));
               }
 
           -- it is marked: its row joins the tree
@@ -151,17 +151,17 @@ module _ {t : List ℤ} {n : ℕ} {start : ℕ → ℕ} {s : ℕ} {l₀ : List �
             put-column : Put (flags reached) (flags (set reached (r .column) true)) (r .column) true
             put-column = put-flags reached (r .column) true (omega (arith, o .long .5, end-inside, rd .square .small))
 
-            pub fewer : unreached n (flags (set reached (r .column) true)) < unreached n (flags reached)
-            fewer = omega (arith, unreached-less n end-inside (k .column lt .1) put-column)
+            pub fewer : unset n (flags (set reached (r .column) true)) < unset n (flags reached)
+            fewer = omega (arith, unset-fewer n end-inside (k .column lt .1) put-column)
 
-            pub joined : Searching t n start s l′ h′ ρ κ (set tree row true) (set reached (r .column) true) (set g′ (r .column) none) p (nums ρ (r .column))
+            pub joined : Searching t n start s l′ h′ ρ κ (set tree row true) (set reached (r .column) true) (set g′ (r .column) no-gap) p (nums ρ (r .column))
             joined =
                 record {
                   inside = m;
                   long = (
                     v .long .0,
                     v .long .1,
-                    length-set g′ (r .column) none ∙ v .long .2,
+                    length-set g′ (r .column) no-gap ∙ v .long .2,
                     k .long .1,
                     length-set tree row true ∙ o .long .4,
                     length-set reached (r .column) true ∙ o .long .5,
@@ -169,7 +169,7 @@ module _ {t : List ℤ} {n : ℕ} {start : ℕ → ℕ} {s : ℕ} {l₀ : List �
                   search =
                       search-join setting risen (r .column) end-inside (k .column lt .1) meets m
                       (put-flags (set tree row true) (nums ρ (r .column)) true (omega (arith, length-set tree row true, o .long .4, rd .square .small)))
-                      put-column (put-nums g′ (r .column) none (omega (arith, v .long .2, end-inside, rd .square .small)));
+                      put-column (put-nums g′ (r .column) no-gap (omega (arith, v .long .2, end-inside, rd .square .small)));
                 }
 
 -- Row s is tight in an unmarked column as it stands: nothing has to rise, and the tree is row s alone.
@@ -178,11 +178,11 @@ pub met-at-once : {t : List ℤ} {n : ℕ} {start : ℕ → ℕ} {s : ℕ} {l : 
 met-at-once {s = s} rd hs givers j long hj free =
     let only : (i : ℕ) → T (eqb i s) → i ≡ s = λ i e. eqb→eq i s e in
     record {
-      standing = rd .standing;
+      growing = rd .growing;
       way = record {
         small = rd .square .small;
         inserted = hs;
-        marking = rd .standing .marking;
+        marking = rd .growing .marking;
         tree = λ i. eqb i s;
         rank = λ i. 0;
         early = λ i hi e. omega (arith, only i e);
@@ -203,12 +203,12 @@ inserted {t} {n} rd {l} {h} m f =
       square = rd .square;
       orders = rd .orders;
       handed-in = rd .handed-in;
-      standing = record {
+      growing = record {
         marking = f .marking n (entry t n) (nums l) (ints h) (m .way);
-        under = m .standing .under;
-        first = λ j hj q. m .standing .first j hj (f .unmarked n (entry t n) (nums l) (ints h) (m .way) j hj q);
-        from-start = m .standing .from-start;
-        least = m .standing .least;
+        under = m .growing .under;
+        first = λ j hj q. m .growing .first j hj (f .unmarked n (entry t n) (nums l) (ints h) (m .way) j hj q);
+        from-start = m .growing .from-start;
+        least = m .growing .least;
       };
       top = m .top;
     }
@@ -221,7 +221,7 @@ first-ready {t} {n} {start} {h} c heads =
       square = c .square;
       orders = within order n t (c .square .square) (c .entries);
       handed-in = c .handed-in;
-      standing = record {
+      growing = record {
         marking = record {
           row = λ j hj m. absurd (omega (arith, getD-replicate {A = ℕ} rows j rows 0 (omega (arith, c .square .small)), c .square .small));
           column = λ i hi. absurd (omega arith);
@@ -237,53 +237,46 @@ first-ready {t} {n} {start} {h} c heads =
     }
 
 -- ---- after the last: every row is marked, so every column is, and the marked places are a complete transversal of column maxima
-module _ {t : List ℤ} {n : ℕ} (start : List ℕ) (r : Grown) (rd : Ready t n (nums start) n (r .additions) (r .heads) (r .rows) (r .columns)) where
-  column : (i : ℕ) → i < n → (nums (r .columns) i < n) × (nums (r .rows) (nums (r .columns) i) ≡ i)
-  column = rd .standing .marking .column
+module _ {t : List ℤ} {n : ℕ} {start : ℕ → ℕ} {l : List ℕ} {h : List ℤ} {ρ κ : List ℕ} (rd : Ready t n start n l h ρ κ) where
+  column : (i : ℕ) → i < n → (nums κ i < n) × (nums ρ (nums κ i) ≡ i)
+  column = rd .growing .marking .column
 
-  apart : (i k : ℕ) → i < n → k < n → nums (r .columns) i ≡ nums (r .columns) k → i ≡ k
-  apart i k hi hk e = sym (column i hi .1) ∙ ap (nums (r .rows)) e ∙ column k hk .1
+  apart : (i k : ℕ) → i < n → k < n → nums κ i ≡ nums κ k → i ≡ k
+  apart i k hi hk e = sym (column i hi .1) ∙ ap (nums ρ) e ∙ column k hk .1
 
-  marked : (j : ℕ) → j < n → nums (r .rows) j < n
+  marked : (j : ℕ) → j < n → nums ρ j < n
   marked j hj =
-      let (i, hi, e) = onto n (nums (r .columns)) apart (λ i hi. column i hi .0) j hj in
-      omega (arith, column i hi .1, ap (nums (r .rows)) e)
+      let (i, hi, e) = onto n (nums κ) apart (λ i hi. column i hi .0) j hj in
+      omega (arith, column i hi .1, ap (nums ρ) e)
 
-  tight : (i : ℕ) → i < n → Tight n (entry t n) (nums (r .additions)) (ints (r .heads)) i (nums (r .columns) i)
+  tight : (i : ℕ) → i < n → Tight n (entry t n) (nums l) (ints h) i (nums κ i)
   tight i hi =
       let c = column i hi in
-      rw (c .1) at (rd .standing .marking .row (nums (r .columns) i) (c .0) (marked (nums (r .columns) i) (c .0)) .2)
+      rw (c .1) at (rd .growing .marking .row (nums κ i) (c .0) (marked (nums κ i) (c .0)) .2)
 
-  of-maxima : OfMaxima n (entry t n) (nums (r .additions)) (nums (r .columns))
+  of-maxima : OfMaxima n (entry t n) (nums l) (nums κ)
   of-maxima =
       record {
         transversal = record { inside = λ i hi. column i hi .0; present = λ i hi. tight i hi .present; apart = apart };
         maximum = λ i hi.
             record {
               present = tight i hi .present;
-              unexceeded = λ k hk here. rw (tight i hi .is) (rd .standing .under k (nums (r .columns) i) hk (column i hi .0) here);
+              unexceeded = λ k hk here. rw (tight i hi .is) (rd .growing .under k (nums κ i) hk (column i hi .0) here);
             };
       }
 
-  pub whole : Whole t n start r
-  whole =
+  pub grown-least : LeastBy t n start l κ
+  grown-least =
       record {
-        least = record { canon = record { columns = nums (r .columns); of-maxima = of-maxima }; from-start = rd .standing .from-start; least = rd .standing .least };
-        of-maxima = of-maxima;
-        heads = λ j hj.
-            let m = marked j hj in
-            let k = rd .standing .marking .row j hj m .2 in
-            record {
-              row = nums (r .rows) j;
-              inside = m;
-              maximum = record { present = k .present; unexceeded = λ x hx here. rw (k .is) (rd .standing .under x j hx hj here) };
-              is = sym (k .is);
-            };
-        marks = record {
-          column = λ i hi. column i hi .0;
-          row = marked;
-          back = λ i hi. column i hi .1;
-          forth = λ j hj. rd .standing .marking .row j hj (marked j hj) .1;
-        };
-        roomy = λ i hi. omega (arith, rd .top i hi, rd .square .small);
+        least = record { canon = record { columns = nums κ; of-maxima = of-maxima }; from-start = rd .growing .from-start; least = rd .growing .least };
+        canon = record { of-maxima = of-maxima; under-ceiling = λ i hi. omega (arith, rd .top i hi, rd .square .small) };
+      }
+
+  pub grown-marks : Marks n (nums ρ) (nums κ)
+  grown-marks =
+      record {
+        column = λ i hi. column i hi .0;
+        row = marked;
+        back = λ i hi. column i hi .1;
+        forth = λ j hj. rd .growing .marking .row j hj (marked j hj) .1;
       }

@@ -14,34 +14,35 @@ use Rattle.theory.specs.Table.{Present, WithinLimit}
 use Rattle.theory.specs.Canon.{Transversal}
 use Rattle.theory.proofs.Pigeonhole.{choose, choose-yes, choose-no}
 use Rattle.theory.proofs.Signed.{plus, signed}
-use Rattle.growth.specs.Steps.{none, Nearer, share, Lowered}
-use Rattle.growth.specs.Standing.{climb, Tight, Standing, WayBack}
-use Rattle.growth.proofs.Stores.{Put, after, unreached, unreached-all, unreached-less}
+use Rattle.growth.specs.Steps.{no-gap, Nearer, share, Narrowed}
+use Rattle.growth.specs.Growing.{insertion-rise, Tight, Growing, WayBack}
 use Rattle.growth.proofs.Growth.{by-flag, flag-set, flag-is, flag-clash, Tree, stuck, growth}
+use Rattle.orders.proofs.Stores.{Put, after}
+use Rattle.orders.proofs.Flags.{unset, unset-most, unset-fewer}
 
--- g is the gap of the unreached column j, given by the row p: the least over the rows seen, or `none` where they have no order
+-- g is the gap of the unset column j, given by the row p: the least over the rows seen, or `no-gap` where they have no order
 pub record GapOf (n : ℕ) (a : ℕ → ℕ → ℤ) (l : ℕ → ℕ) (h : ℕ → ℤ) (seen : ℕ → Bool) (j g p : ℕ) : Type 0 where
-  pub most : g ≤ none
-  pub gives : g < none → (p < n) × T (seen p) × Present (a p j) × (a p j +ℤ pos (l p + g) ≡ h j)
-  pub least : (i : ℕ) → i < n → T (seen i) → Present (a i j) → (g < none) × ((a i j +ℤ pos (l i + g)) ≤ℤ h j)
+  pub most : g ≤ no-gap
+  pub gives : g < no-gap → (p < n) × T (seen p) × Present (a p j) × (a p j +ℤ pos (l p + g) ≡ h j)
+  pub least : (i : ℕ) → i < n → T (seen i) → Present (a i j) → (g < no-gap) × ((a i j +ℤ pos (l i + g)) ≤ℤ h j)
 
 -- How high the additions are while row s is inserted, when none was above b before: rows outside the tree are where they were, and
 -- those of the tree lie near row s, since each is tight with its giver in one column.
-pub record Reach (n s b : ℕ) (l : ℕ → ℕ) (tree reached : ℕ → Bool) : Type 0 where
+pub record Heights (n s b : ℕ) (l : ℕ → ℕ) (tree reached : ℕ → Bool) : Type 0 where
   pub outside : (i : ℕ) → i < n → tree i ≡ false → l i ≤ b
-  pub inside : (i : ℕ) → i < n → T (tree i) → l i ≤ b + climb
+  pub inside : (i : ℕ) → i < n → T (tree i) → l i ≤ b + insertion-rise
   pub spread : ℕ
   pub above : (i : ℕ) → i < n → T (tree i) → l i ≤ l s + spread
   pub below : (i : ℕ) → i < n → T (tree i) → l s ≤ l i + spread
-  pub fits : spread + 2 * order * unreached n reached ≤ 2 * order * n
+  pub fits : spread + 2 * order * unset n reached ≤ 2 * order * n
 
 -- An insertion of row s under way: of the tree's rows the gaps have taken in those seen.
 pub record Search (n : ℕ) (a : ℕ → ℕ → ℤ) (start : ℕ → ℕ) (s b : ℕ) (l : ℕ → ℕ) (h : ℕ → ℤ) (ρ κ : ℕ → ℕ) (seen tree reached : ℕ → Bool) (gap giver : ℕ → ℕ) : Type 0 where
-  pub standing : Standing n a start s l h ρ κ
+  pub growing : Growing n a start s l h ρ κ
   pub grown : Tree n a s l h ρ tree reached giver
   pub gaps : (j : ℕ) → j < n → reached j ≡ false → GapOf n a l h seen j (gap j) (giver j)
-  pub done : (j : ℕ) → j < n → reached j ≡ true → gap j ≡ none
-  pub reach : Reach n s b l tree reached
+  pub done : (j : ℕ) → j < n → reached j ≡ true → gap j ≡ no-gap
+  pub heights : Heights n s b l tree reached
 
 -- what does not change while rows are inserted
 pub record Setting (n : ℕ) (a : ℕ → ℕ → ℤ) (start : ℕ → ℕ) (s b : ℕ) : Type 0 where
@@ -63,13 +64,13 @@ put-alone {k = k} p empty x hx = after (λ y z. T z → y ≡ k) p x (λ e t. re
 
 module _ {n : ℕ} {a : ℕ → ℕ → ℤ} {start : ℕ → ℕ} {s b : ℕ} {l : ℕ → ℕ} {h : ℕ → ℤ} {ρ κ : ℕ → ℕ} (c : Setting n a start s b) where
   -- ---- the start: row s alone, and no column reached
-  module _ {seen tree reached : ℕ → Bool} {gap giver : ℕ → ℕ} (st : Standing n a start s l h ρ κ) (top : (i : ℕ) → i < n → l i ≤ b)
-      (empty : (i : ℕ) → i < n → seen i ≡ false) (free : (j : ℕ) → j < n → reached j ≡ false) (wide : (j : ℕ) → j < n → gap j ≡ none)
+  module _ {seen tree reached : ℕ → Bool} {gap giver : ℕ → ℕ} (st : Growing n a start s l h ρ κ) (top : (i : ℕ) → i < n → l i ≤ b)
+      (empty : (i : ℕ) → i < n → seen i ≡ false) (free : (j : ℕ) → j < n → reached j ≡ false) (wide : (j : ℕ) → j < n → gap j ≡ no-gap)
       (p : Put seen tree s true) where
     pub search-start : Search n a start s b l h ρ κ seen tree reached gap giver
     search-start =
         record {
-          standing = st;
+          growing = st;
           grown = record {
             rank = λ i. 0;
             root = put-new p;
@@ -85,13 +86,13 @@ module _ {n : ℕ} {a : ℕ → ℕ → ℤ} {start : ℕ → ℕ} {s b : ℕ} {
                 least = λ i hi ti. flag-clash ti (empty i hi);
               };
           done = λ j hj r. wide j hj;
-          reach = record {
+          heights = record {
             outside = λ i hi e. top i hi;
             inside = λ i hi ti. omega (arith, top i hi);
             spread = 0;
             above = λ i hi ti. omega (arith, ap l (put-alone p empty i hi ti));
             below = λ i hi ti. omega (arith, ap l (put-alone p empty i hi ti));
-            fits = omega (arith, unreached-all n reached);
+            fits = omega (arith, unset-most n reached);
           };
         }
 
@@ -114,7 +115,7 @@ module _ {n : ℕ} {a : ℕ → ℕ → ℤ} {start : ℕ → ℕ} {s b : ℕ} {
                 | inr q ↦ rw (q .1) (hr, put-new p, q .0, q .2)
               ];
           least = λ i hi.
-              after (λ x y. T y → Present (a x j) → (gap′ j < none) × ((a x j +ℤ pos (l x + gap′ j)) ≤ℤ h j)) p i (λ e t here. near .this here)
+              after (λ x y. T y → Present (a x j) → (gap′ j < no-gap) × ((a x j +ℤ pos (l x + gap′ j)) ≤ℤ h j)) p i (λ e t here. near .this here)
               (λ ne t here.
               let old = g .least i hi t here in (
                 omega (arith, near .that, old .0),
@@ -125,7 +126,7 @@ module _ {n : ℕ} {a : ℕ → ℕ → ℤ} {start : ℕ → ℕ} {s b : ℕ} {
     pub search-look : Search n a start s b l h ρ κ tree tree reached gap′ giver′
     search-look =
         record {
-          standing = w .standing;
+          growing = w .growing;
           grown = record {
             rank = w .grown .rank;
             root = w .grown .root;
@@ -136,19 +137,19 @@ module _ {n : ℕ} {a : ℕ → ℕ → ℤ} {start : ℕ → ℕ} {s b : ℕ} {
           };
           gaps = look-gap;
           done = λ j hj r. kept j hj r .0 ∙ w .done j hj r;
-          reach = w .reach;
+          heights = w .heights;
         }
 
   module _ {tree reached : ℕ → Bool} {gap giver : ℕ → ℕ} (w : Search n a start s b l h ρ κ tree tree reached gap giver) (δ : ℕ)
       (least : (j : ℕ) → j < n → reached j ≡ false → δ ≤ gap j) where
     -- ---- no gap: there is no complete transversal (G2)
-    pub search-stuck : none ≤ δ → (σ : ℕ → ℕ) → Transversal n a σ → ⊥
+    pub search-stuck : no-gap ≤ δ → (σ : ℕ → ℕ) → Transversal n a σ → ⊥
     search-stuck wide =
-        stuck (w .standing .marking) (w .grown) (c .inserting)
+        stuck (w .growing .marking) (w .grown) (c .inserting)
         (λ i j hi hj ti r here. omega (arith, least j hj r, w .gaps j hj r .least i hi ti here .0))
 
     -- ---- a rise by the least gap, that of the column e
-    module _ (e : ℕ) (he : e < n) (re : reached e ≡ false) (is : gap e ≡ δ) (lt : δ < none) where
+    module _ (e : ℕ) (he : e < n) (re : reached e ≡ false) (is : gap e ≡ δ) (lt : δ < no-gap) where
       clear : (i j : ℕ) → i < n → j < n → T (tree i) → reached j ≡ false → Present (a i j) → (a i j +ℤ pos (l i + δ)) ≤ℤ h j
       clear i j hi hj ti r here =
           omega (
@@ -171,17 +172,17 @@ module _ {n : ℕ} {a : ℕ → ℕ → ℤ} {start : ℕ → ℕ} {s b : ℕ} {
       head-low j hj r =
           elim (decLt (ρ j) n) [
             | yes m ↦
-                let t = w .standing .marking .row j hj m .2 in
+                let t = w .growing .marking .row j hj m .2 in
                 omega (
                   arith,
                   signed,
                   t .is,
                   c .limits (ρ j) j m hj (t .present) .high,
-                  w .reach .outside (ρ j) m (row-outside j hj r m),
+                  w .heights .outside (ρ j) m (row-outside j hj r m),
                   plus (a (ρ j) j) (pos (l (ρ j))),
                 )
             | no nm ↦
-                let f = w .standing .first j hj (omega arith) in
+                let f = w .growing .first j hj (omega arith) in
                 omega (
                   arith,
                   signed,
@@ -204,19 +205,19 @@ module _ {n : ℕ} {a : ℕ → ℕ → ℤ} {start : ℕ → ℕ} {s b : ℕ} {
             plus (a (giver e) e) (pos (l (giver e) + gap e)),
           )
 
-      tree-most : (i : ℕ) → i < n → T (tree i) → l i + δ ≤ b + climb
+      tree-most : (i : ℕ) → i < n → T (tree i) → l i + δ ≤ b + insertion-rise
       tree-most i hi ti =
           omega (
             arith,
             rise-most,
-            w .reach .above i hi ti,
-            w .reach .below (giver e) (from .0) (from .1),
-            w .reach .fits,
+            w .heights .above i hi ti,
+            w .heights .below (giver e) (from .0) (from .1),
+            w .heights .fits,
             c .small,
           )
 
       module _ {l′ : ℕ → ℕ} {h′ : ℕ → ℤ} {gap′ : ℕ → ℕ} (el : (i : ℕ) → i < n → l′ i ≡ l i + share δ (tree i))
-          (eh : (j : ℕ) → j < n → h′ j ≡ h j +ℤ pos (share δ (reached j))) (eg : (j : ℕ) → j < n → Lowered δ (gap j) (gap′ j)) where
+          (eh : (j : ℕ) → j < n → h′ j ≡ h j +ℤ pos (share δ (reached j))) (eg : (j : ℕ) → j < n → Narrowed δ (gap j) (gap′ j)) where
         row-in : (i : ℕ) → i < n → tree i ≡ true → l′ i ≡ l i + δ
         row-in i hi t = rw t at (el i hi)
 
@@ -253,7 +254,7 @@ module _ {n : ℕ} {a : ℕ → ℕ → ℤ} {start : ℕ → ℕ} {s b : ℕ} {
             omega (
               arith,
               signed,
-              w .standing .under i j hi hj here,
+              w .growing .under i j hi hj here,
               el i hi,
               most (tree i),
               head-in j hj r,
@@ -277,7 +278,7 @@ module _ {n : ℕ} {a : ℕ → ℕ → ℤ} {start : ℕ → ℕ} {s b : ℕ} {
             omega (
               arith,
               signed,
-              w .standing .under i j hi hj here,
+              w .growing .under i j hi hj here,
               row-out i hi t,
               head-out j hj r,
               plus (a i j) (pos (l i)),
@@ -294,36 +295,36 @@ module _ {n : ℕ} {a : ℕ → ℕ → ℤ} {start : ℕ → ℕ} {s b : ℕ} {
             by-flag (reached j) (λ r. flag-is (tree (ρ j)) (w .grown .row j hj (flag-set r) .1) ∙ sym r)
             (λ r. row-outside j hj r m ∙ sym r)
 
-        rise-standing : Standing n a start s l′ h′ ρ κ
-        rise-standing =
+        rise-growing : Growing n a start s l′ h′ ρ κ
+        rise-growing =
             record {
               marking = record {
                 row = λ j hj m.
-                    let r = w .standing .marking .row j hj m in
+                    let r = w .growing .marking .row j hj m in
                     (r .0, r .1, rise-tight (ρ j) j m hj (both j hj m) (r .2));
-                column = w .standing .marking .column;
+                column = w .growing .marking .column;
               };
               under = rise-under;
               first = λ j hj m.
                   by-flag (reached j) (λ r. absurd (omega (arith, w .grown .row j hj (flag-set r) .0)))
-                  (λ r. rw (head-out j hj r) (w .standing .first j hj m));
-              from-start = λ i hi. omega (arith, w .standing .from-start i hi, el i hi);
+                  (λ r. rw (head-out j hj r) (w .growing .first j hj m));
+              from-start = λ i hi. omega (arith, w .growing .from-start i hi, el i hi);
               least = λ m canon from i hi.
                   by-flag (tree i)
-                  (λ t. rw (row-in i hi t) (growth (w .standing) (w .grown) δ clear m (canon .columns) (canon .of-maxima) from i hi (flag-set t)))
-                  (λ t. rw (row-out i hi t) (w .standing .least m canon from i hi));
+                  (λ t. rw (row-in i hi t) (growth (w .growing) (w .grown) δ clear m (canon .columns) (canon .of-maxima) from i hi (flag-set t)))
+                  (λ t. rw (row-out i hi t) (w .growing .least m canon from i hi));
             }
 
         rise-gap : (j : ℕ) → j < n → reached j ≡ false → GapOf n a l′ h′ tree j (gap′ j) (giver j)
         rise-gap j hj r =
             let g = w .gaps j hj r in
             record {
-              most = elim (decLt (gap j) none) [
+              most = elim (decLt (gap j) no-gap) [
                 | yes q ↦ omega (arith, eg j hj .less q)
                 | no q ↦ omega (arith, eg j hj .kept (omega (arith, g .most)))
               ];
               gives = λ q.
-                  elim (decLt (gap j) none) [
+                  elim (decLt (gap j) no-gap) [
                     | yes u ↦
                         let old = g .gives u in (
                           old .0,
@@ -371,15 +372,15 @@ module _ {n : ℕ} {a : ℕ → ℕ → ℤ} {start : ℕ → ℕ} {s b : ℕ} {
                   (g .0, g .1, rise-tight (giver j) j (g .0) hj (flag-is (tree (giver j)) (g .1) ∙ sym (flag-is (reached j) r)) (g .2), g .3);
             }
 
-        rise-reach : Reach n s b l′ tree reached
-        rise-reach =
+        rise-heights : Heights n s b l′ tree reached
+        rise-heights =
             record {
-              outside = λ i hi t. rw (row-out i hi t) (w .reach .outside i hi t);
+              outside = λ i hi t. rw (row-out i hi t) (w .heights .outside i hi t);
               inside = λ i hi ti. rw (row-in i hi (flag-is (tree i) ti)) (tree-most i hi ti);
-              spread = w .reach .spread;
-              above = λ i hi ti. omega (arith, row-in i hi (flag-is (tree i) ti), root-in, w .reach .above i hi ti);
-              below = λ i hi ti. omega (arith, row-in i hi (flag-is (tree i) ti), root-in, w .reach .below i hi ti);
-              fits = w .reach .fits;
+              spread = w .heights .spread;
+              above = λ i hi ti. omega (arith, row-in i hi (flag-is (tree i) ti), root-in, w .heights .above i hi ti);
+              below = λ i hi ti. omega (arith, row-in i hi (flag-is (tree i) ti), root-in, w .heights .below i hi ti);
+              fits = w .heights .fits;
             }
           where
             root-in : l′ s ≡ l s + δ
@@ -388,11 +389,11 @@ module _ {n : ℕ} {a : ℕ → ℕ → ℤ} {start : ℕ → ℕ} {s b : ℕ} {
         pub search-rise : Search n a start s b l′ h′ ρ κ tree tree reached gap′ giver
         search-rise =
             record {
-              standing = rise-standing;
+              growing = rise-growing;
               grown = rise-tree;
               gaps = rise-gap;
               done = λ j hj r. eg j hj .kept (w .done j hj r);
-              reach = rise-reach;
+              heights = rise-heights;
             }
 
         pub rise-meets : (giver e < n) × T (tree (giver e)) × Tight n a l′ h′ (giver e) e
@@ -422,7 +423,7 @@ module _ {n : ℕ} {a : ℕ → ℕ → ℤ} {start : ℕ → ℕ} {s b : ℕ} {
         record {
           small = c .small;
           inserted = c .inserting;
-          marking = w .standing .marking;
+          marking = w .growing .marking;
           tree = tree;
           rank = w .grown .rank;
           early = w .grown .early;
@@ -430,13 +431,13 @@ module _ {n : ℕ} {a : ℕ → ℕ → ℤ} {start : ℕ → ℕ} {s b : ℕ} {
           free = free;
           last = meets;
           link = λ i hi ti.
-              let k = w .standing .marking .column i hi in
+              let k = w .growing .marking .column i hi in
               let m : ρ (κ i) < n = omega (arith, k .1, c .inserting) in
               rw (k .1) at (w .grown .gives (κ i) (k .0) (w .grown .column (κ i) (k .0) m (rw (k .1) ti)));
         }
 
     module _ (m : ρ e < n) {tree′ reached′ : ℕ → Bool} {gap′ : ℕ → ℕ} (pt : Put tree tree′ (ρ e) true) (pr : Put reached reached′ e true)
-        (pg : Put gap gap′ e none) where
+        (pg : Put gap gap′ e no-gap) where
       abbrev rank′ : ℕ → ℕ
       rank′ i = choose (ℕ-discrete i (ρ e)) (suc (w .grown .rank (giver e))) (w .grown .rank i)
 
@@ -457,8 +458,8 @@ module _ {n : ℕ} {a : ℕ → ℕ → ℤ} {start : ℕ → ℕ} {s b : ℕ} {
 
       other : (j : ℕ) → j < n → ρ j < n → j ≢ e → ρ j ≢ ρ e
       other j hj mj ne q =
-          let x = w .standing .marking .row j hj mj in
-          let y = w .standing .marking .row e he m in
+          let x = w .growing .marking .row j hj mj in
+          let y = w .growing .marking .row e he m in
           ne (sym (x .1) ∙ ap κ q ∙ y .1)
 
       join-gives : (j : ℕ) → j < n → T (reached′ j)
@@ -493,7 +494,7 @@ module _ {n : ℕ} {a : ℕ → ℕ → ℤ} {start : ℕ → ℕ} {s b : ℕ} {
             rank = rank′;
             root = put-kept pt s (w .grown .root);
             early = λ i hi.
-                after (λ x y. T y → x ≤ s) pt i (λ q t. omega (arith, w .standing .marking .row e he m .0)) (λ ne t. w .grown .early i hi t);
+                after (λ x y. T y → x ≤ s) pt i (λ q t. omega (arith, w .growing .marking .row e he m .0)) (λ ne t. w .grown .early i hi t);
             row = λ j hj r.
                 elim (ℕ-discrete j e) [
                   | yes q ↦ rw q (m, put-new pt)
@@ -512,7 +513,7 @@ module _ {n : ℕ} {a : ℕ → ℕ → ℤ} {start : ℕ → ℕ} {s b : ℕ} {
       -- the row that joins is tight in one column with the giver, so their additions differ by two orders at most
       near : (l (ρ e) ≤ l (giver e) + 2 * order) × (l (giver e) ≤ l (ρ e) + 2 * order)
       near =
-          let k = w .standing .marking .row e he m .2 in
+          let k = w .growing .marking .row e he m .2 in
           let x = c .limits (ρ e) e m he (k .present) in
           let y = c .limits (giver e) e (meets .0) he (meets .2 .present) in
           omega (
@@ -528,31 +529,31 @@ module _ {n : ℕ} {a : ℕ → ℕ → ℤ} {start : ℕ → ℕ} {s b : ℕ} {
             plus (a (giver e) e) (pos (l (giver e))),
           )
 
-      join-reach : Reach n s b l tree′ reached′
-      join-reach =
+      join-heights : Heights n s b l tree′ reached′
+      join-heights =
           record {
-            outside = λ i hi f. w .reach .outside i hi (by-flag (tree i) (λ t. flag-clash (put-kept pt i (flag-set t)) f) (λ z. z));
+            outside = λ i hi f. w .heights .outside i hi (by-flag (tree i) (λ t. flag-clash (put-kept pt i (flag-set t)) f) (λ z. z));
             inside = λ i hi.
-                after (λ x y. T y → l x ≤ b + climb) pt i (λ q t. omega (arith, w .reach .outside (ρ e) m outside)) (λ ne t. w .reach .inside i hi t);
-            spread = w .reach .spread + 2 * order;
+                after (λ x y. T y → l x ≤ b + insertion-rise) pt i (λ q t. omega (arith, w .heights .outside (ρ e) m outside)) (λ ne t. w .heights .inside i hi t);
+            spread = w .heights .spread + 2 * order;
             above = λ i hi.
-                after (λ x y. T y → l x ≤ l s + (w .reach .spread + 2 * order)) pt i
-                (λ q t. omega (arith, near .0, w .reach .above (giver e) (meets .0) (meets .1))) (λ ne t. omega (arith, w .reach .above i hi t));
+                after (λ x y. T y → l x ≤ l s + (w .heights .spread + 2 * order)) pt i
+                (λ q t. omega (arith, near .0, w .heights .above (giver e) (meets .0) (meets .1))) (λ ne t. omega (arith, w .heights .above i hi t));
             below = λ i hi.
-                after (λ x y. T y → l s ≤ l x + (w .reach .spread + 2 * order)) pt i
-                (λ q t. omega (arith, near .1, w .reach .below (giver e) (meets .0) (meets .1))) (λ ne t. omega (arith, w .reach .below i hi t));
-            fits = omega (arith, w .reach .fits, unreached-less n he re pr);
+                after (λ x y. T y → l s ≤ l x + (w .heights .spread + 2 * order)) pt i
+                (λ q t. omega (arith, near .1, w .heights .below (giver e) (meets .0) (meets .1))) (λ ne t. omega (arith, w .heights .below i hi t));
+            fits = omega (arith, w .heights .fits, unset-fewer n he re pr);
           }
 
       pub search-join : Search n a start s b l h ρ κ tree tree′ reached′ gap′ giver
       search-join =
           record {
-            standing = w .standing;
+            growing = w .growing;
             grown = join-tree;
             gaps = λ j hj f.
                 let ne : j ≢ e = λ q. flag-clash (put-new pr) (rw q at f) in
                 rw (pg .off j ne) (w .gaps j hj (sym (pr .off j ne) ∙ f));
             done = λ j hj r.
-                after (λ x y. T (reached′ x) → y ≡ none) pg j (λ q t. refl) (λ ne t. w .done j hj (flag-is (reached j) (old j t ne))) (flag-set r);
-            reach = join-reach;
+                after (λ x y. T (reached′ x) → y ≡ no-gap) pg j (λ q t. refl) (λ ne t. w .done j hj (flag-is (reached j) (old j t ne))) (flag-set r);
+            heights = join-heights;
           }

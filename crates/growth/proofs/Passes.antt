@@ -14,28 +14,29 @@ use mir.Val.{SFits}
 use Rattle.theory.specs.Lists.{nums, ints, flags}
 use Rattle.theory.specs.Limits.{rows, order}
 use Rattle.theory.specs.Table.{entry}
-use Rattle.theory.specs.Canon.{Head, Transversal}
+use Rattle.theory.specs.Canon.{Head, NoTransversal}
 use Rattle.theory.proofs.Pigeonhole.{onto}
 use Rattle.theory.proofs.Signed.{plus, signed, mag-up, mag-dn}
-use Rattle.orders.specs.Places.{room, TopOf}
+use Rattle.orders.specs.Places.{ceiling, TopOf}
 use Rattle.orders.specs.declared.Top.{Top}
 use Rattle.orders.proofs.Entries.{clash}
-use Rattle.growth.specs.declared.Least.{Least}
-use Rattle.growth.specs.Steps.{none, Long, Nearer, Lesser, LookedAt, share, Lowered, Rising, RisenBy}
-use Rattle.growth.proofs.Stores.{Put, after, put-nums, put-ints}
+use Rattle.orders.proofs.Stores.{Put, after, put-nums, put-ints}
+use Rattle.orders.specs.Held.{Long}
+use Rattle.growth.specs.declared.LeastGap.{LeastGap}
+use Rattle.growth.specs.Steps.{no-gap, Nearer, Lesser, LookedAt, share, Narrowed, Rising, RisenBy}
 
 -- a head that is small enough fits
-pub head-fits : (h : ℤ) → mag h ≤ room + order → SFits w32 h
+pub head-fits : (h : ℤ) → mag h ≤ ceiling + order → SFits w32 h
 head-fits h small = omega (arith, signed, mag-up h, mag-dn h)
 
 -- ---- the least gap
 -- the ways into the first k columns are looked at, the others are as they were
-pub record Looking (t : List ℤ) (n k row : ℕ) (l : List ℕ) (h : List ℤ) (reached : List Bool) (gaps givers g p : List ℕ) (b : Least) : Type 0 where
+pub record Looking (t : List ℤ) (n k row : ℕ) (l : List ℕ) (h : List ℤ) (reached : List Bool) (gaps givers g p : List ℕ) (b : LeastGap) : Type 0 where
   pub looked : LookedAt t n k row l h reached gaps givers g p b
   pub rest : (x : ℕ) → k ≤ x → (nums g x ≡ nums gaps x) × (nums p x ≡ nums givers x)
 
 module _ {t : List ℤ} {n row : ℕ} {l : List ℕ} {h : List ℤ} {reached : List Bool} {gaps givers : List ℕ} where
-  pub look-start : Long gaps × Long givers → Looking t n 0 row l h reached gaps givers gaps givers (record { gap = none; column = 0 })
+  pub look-start : Long gaps × Long givers → Looking t n 0 row l h reached gaps givers gaps givers (record { gap = no-gap; column = 0 })
   look-start long =
       record {
         looked = record {
@@ -50,7 +51,7 @@ module _ {t : List ℤ} {n row : ℕ} {l : List ℕ} {h : List ℤ} {reached : L
         rest = λ x hx. (refl, refl);
       }
 
-  module _ {k : ℕ} {g p : List ℕ} {b : Least} (w : Looking t n k row l h reached gaps givers g p b) where
+  module _ {k : ℕ} {g p : List ℕ} {b : LeastGap} (w : Looking t n k row l h reached gaps givers g p b) where
     pub look-skip : flags reached k ≡ true → Looking t n (k + 1) row l h reached gaps givers g p b
     look-skip e =
         record {
@@ -79,7 +80,7 @@ module _ {t : List ℤ} {n row : ℕ} {l : List ℕ} {h : List ℤ} {reached : L
               | no ne ↦ omega arith
             ]
 
-    module _ (small : k < rows) (e : flags reached k ≡ false) (g₁ p₁ : ℕ) (b₁ : Least)
+    module _ (small : k < rows) (e : flags reached k ≡ false) (g₁ p₁ : ℕ) (b₁ : LeastGap)
         (near : Nearer (entry t n row k) (nums l row) (ints h k) row (nums g k) (nums p k) g₁ p₁) (less : Lesser b g₁ k b₁) where
       put-gap : Put (nums g) (nums (set g k g₁)) k g₁
       put-gap = put-nums g k g₁ (omega (arith, w .looked .long .0))
@@ -108,7 +109,7 @@ module _ {t : List ℤ} {n row : ℕ} {l : List ℕ} {h : List ℤ} {reached : L
       look-least j hj f =
           after (λ x y. b₁ .gap ≤ y) put-gap j (λ q. less .this) (λ ne. omega (arith, less .that, w .looked .least j (omega arith) f))
 
-      look-column : b₁ .gap < none → (b₁ .column < k + 1) × (flags reached (b₁ .column) ≡ false) × (nums (set g k g₁) (b₁ .column) ≡ b₁ .gap)
+      look-column : b₁ .gap < no-gap → (b₁ .column < k + 1) × (flags reached (b₁ .column) ≡ false) × (nums (set g k g₁) (b₁ .column) ≡ b₁ .gap)
       look-column lt =
           elim (less .one) [
             | inl q ↦
@@ -166,17 +167,17 @@ module _ {δ : ℕ} {tree reached : List Bool} {l : List ℕ} {h : List ℤ} {ga
 
   -- what the next place holds is small, and its gap no less than the rise
   module _ {k : ℕ} {l′ : List ℕ} {h′ : List ℤ} {g′ : List ℕ} (w : RisenTo k δ tree reached l h gaps l′ h′ g′) {n : ℕ} (r : Rising n δ l h gaps) (inside : k < n) where
-    pub rise-add : {u : ℕ} → u ≤ δ → nums l′ k + u ≤ 3 * room
+    pub rise-add : {u : ℕ} → u ≤ δ → nums l′ k + u ≤ 3 * ceiling
     rise-add le = omega (arith, w .rest k (omega arith) .0, r .additions k inside, r .rise)
 
-    pub rise-head : mag (ints h′ k) ≤ room + order
+    pub rise-head : mag (ints h′ k) ≤ ceiling + order
     rise-head = rw (w .rest k (omega arith) .1) (r .heads k inside)
 
-    pub rise-gap : nums g′ k < none → δ ≤ nums g′ k
+    pub rise-gap : nums g′ k < no-gap → δ ≤ nums g′ k
     rise-gap = rw (w .rest k (omega arith) .2) (r .gap k inside)
 
   module _ {k : ℕ} {l′ : List ℕ} {h′ : List ℤ} {g′ : List ℕ} (w : RisenTo k δ tree reached l h gaps l′ h′ g′) (small : k < rows)
-      {u : ℕ} {v : ℤ} {d : ℕ} (eu : u ≡ share δ (flags tree k)) (ev : v ≡ ints h′ k +ℤ pos (share δ (flags reached k))) (ed : Lowered δ (nums g′ k) d) where
+      {u : ℕ} {v : ℤ} {d : ℕ} (eu : u ≡ share δ (flags tree k)) (ev : v ≡ ints h′ k +ℤ pos (share δ (flags reached k))) (ed : Narrowed δ (nums g′ k) d) where
     pub rise-step : RisenTo (k + 1) δ tree reached l h gaps (set l′ k (nums l′ k + u)) (set h′ k v) (set g′ k d)
     rise-step =
         record {
@@ -188,7 +189,7 @@ module _ {δ : ℕ} {tree reached : List Bool} {l : List ℕ} {h : List ℤ} {ga
                 after (λ x y. y ≡ ints h x +ℤ pos (share δ (flags reached x))) ph j (λ q. rw (← (w .rest k (omega arith) .1)) ev)
                 (λ ne. w .risen .head j (omega arith));
             gap = λ j hj.
-                after (λ x y. Lowered δ (nums gaps x) y) pg j (λ q. rw (← (w .rest k (omega arith) .2)) ed)
+                after (λ x y. Narrowed δ (nums gaps x) y) pg j (λ q. rw (← (w .rest k (omega arith) .2)) ed)
                 (λ ne. w .risen .gap j (omega arith));
             long = (length-set l′ k (nums l′ k + u) ∙ w .risen .long .0, length-set h′ k v ∙ w .risen .long .1, length-set g′ k d ∙ w .risen .long .2);
           };
@@ -212,7 +213,7 @@ pub record HeadsTo (t : List ℤ) (n k : ℕ) (l : List ℕ) (h : List ℤ) : Ty
   pub heads : (j : ℕ) → j < k → Head n (entry t n) (nums l) j (ints h j)
   pub long : Long h
 
-pub heads-step : {t : List ℤ} {n k : ℕ} {l : List ℕ} {h : List ℤ} → HeadsTo t n k l h → k < rows → {r : Top} → TopOf t n n l k r
+pub heads-step : {t : List ℤ} {n k : ℕ} {l : List ℕ} {h : List ℤ} → HeadsTo t n k l h → k < rows → {r : Top} → TopOf t n l k r
     → r .present ≡ true → HeadsTo t n (k + 1) l (set h k (r .head))
 heads-step {t} {n} {k} {l} {h} w small {r} top e =
     record {
@@ -223,8 +224,8 @@ heads-step {t} {n} {k} {l} {h} w small {r} top e =
     }
 
 -- a column with no order: a complete transversal would take one there
-pub no-head : {t : List ℤ} {n j : ℕ} {l : List ℕ} {r : Top} → TopOf t n n l j r → j < n → r .present ≡ false
-    → (σ : ℕ → ℕ) → Transversal n (entry t n) σ → ⊥
+pub no-head : {t : List ℤ} {n j : ℕ} {l : List ℕ} {r : Top} → TopOf t n l j r → j < n → r .present ≡ false
+    → NoTransversal n (entry t n)
 no-head {t} {n} {j} top hj e σ tr =
     let (i, hi, q) = onto n σ (tr .apart) (tr .inside) j hj in
     top .empty e i hi (rw q at (tr .present i hi))

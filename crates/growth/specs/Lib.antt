@@ -1,4 +1,4 @@
 -- What growing from a start means, and what its steps leave to one another.
 pub mod Steps
-pub mod Standing
+pub mod Growing
 pub mod Grown

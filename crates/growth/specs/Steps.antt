@@ -5,26 +5,22 @@ use mathlib.Core.List.{List}
 use mathlib.Core.Logic.{_⊎_}
 use Prim.Native.Nat.{ℕ, _+_, _*_, _≤_, _<_}
 use lib.IntN.{ℤ, pos, _+ℤ_}
-use lib.ListN.{length}
 use lib.Signed.{_≤ℤ_, mag}
 use Rattle.theory.specs.Limits.{order, rows}
 use Rattle.theory.specs.Lists.{nums, ints, flags}
 use Rattle.theory.specs.Table.{Present, entry}
-use Rattle.orders.specs.Places.{Square, room}
-use Rattle.growth.specs.declared.Least.{Least}
+use Rattle.orders.specs.Places.{Square, ceiling}
+use Rattle.orders.specs.Held.{Long}
+use Rattle.growth.specs.declared.LeastGap.{LeastGap}
 
 -- what stands for the gap of a column in which no row of the tree has an order; a gap is below it
-abbrev pub none : ℕ
-none = 4294967295
-
--- the list of an array, which has room for the largest table
-abbrev pub Long : {X : Type 0} → List X → Type 0
-Long l = length l ≡ rows
+abbrev pub no-gap : ℕ
+no-gap = 4294967295
 
 -- an order v, if it is present, in a row with the addition l and a column with the head h: all small enough to be reckoned with
-pub record Fitting (v : ℤ) (l : ℕ) (h : ℤ) : Type 0 where
-  pub addition : l ≤ room
-  pub head : mag h ≤ room + order
+pub record Reckonable (v : ℤ) (l : ℕ) (h : ℤ) : Type 0 where
+  pub addition : l ≤ ceiling
+  pub head : mag h ≤ ceiling + order
   pub below : Present v → (v +ℤ pos l) ≤ℤ h
 
 -- The way with the gap g′ from the row p′ is the nearer of the way with the gap g from the row p, and of the way from `row`, whose
@@ -32,10 +28,10 @@ pub record Fitting (v : ℤ) (l : ℕ) (h : ℤ) : Type 0 where
 pub record Nearer (v : ℤ) (l : ℕ) (h : ℤ) (row g p g′ p′ : ℕ) : Type 0 where
   pub one : ((g′ ≡ g) × (p′ ≡ p)) ⊎ (Present v × (p′ ≡ row) × (v +ℤ pos (l + g′) ≡ h))
   pub that : g′ ≤ g
-  pub this : Present v → (g′ < none) × ((v +ℤ pos (l + g′)) ≤ℤ h)
+  pub this : Present v → (g′ < no-gap) × ((v +ℤ pos (l + g′)) ≤ℤ h)
 
 -- r is the lesser of a least gap and the gap g of column j
-pub record Lesser (least : Least) (g j : ℕ) (r : Least) : Type 0 where
+pub record Lesser (least : LeastGap) (g j : ℕ) (r : LeastGap) : Type 0 where
   pub one : (r ≡ least) ⊎ ((r .gap ≡ g) × (r .column ≡ j))
   pub that : r .gap ≤ least .gap
   pub this : r .gap ≤ g
@@ -44,18 +40,18 @@ pub record Lesser (least : Least) (g j : ℕ) (r : Least) : Type 0 where
 pub record Joining (t : List ℤ) (n row : ℕ) (l : List ℕ) (h : List ℤ) (gaps givers : List ℕ) : Type 0 where
   pub square : Square t n
   pub inside : row < n
-  pub fitting : (j : ℕ) → j < n → Fitting (entry t n row j) (nums l row) (ints h j)
+  pub reckonable : (j : ℕ) → j < n → Reckonable (entry t n row j) (nums l row) (ints h j)
   pub long : Long gaps × Long givers
 
 -- The ways into the first k columns, of which those reached are as they were and the others take the row in; and the least gap of
 -- the others.
-pub record LookedAt (t : List ℤ) (n k row : ℕ) (l : List ℕ) (h : List ℤ) (reached : List Bool) (gaps givers gaps′ givers′ : List ℕ) (r : Least) : Type 0 where
+pub record LookedAt (t : List ℤ) (n k row : ℕ) (l : List ℕ) (h : List ℤ) (reached : List Bool) (gaps givers gaps′ givers′ : List ℕ) (r : LeastGap) : Type 0 where
   pub ways : (j : ℕ) → j < k → flags reached j ≡ false
       → Nearer (entry t n row j) (nums l row) (ints h j) row (nums gaps j) (nums givers j) (nums gaps′ j) (nums givers′ j)
   pub kept : (j : ℕ) → j < k → flags reached j ≡ true → (nums gaps′ j ≡ nums gaps j) × (nums givers′ j ≡ nums givers j)
   pub least : (j : ℕ) → j < k → flags reached j ≡ false → r .gap ≤ nums gaps′ j
-  pub most : r .gap ≤ none
-  pub column : r .gap < none
+  pub most : r .gap ≤ no-gap
+  pub column : r .gap < no-gap
       → (r .column < k) × (flags reached (r .column) ≡ false) × (nums gaps′ (r .column) ≡ r .gap)
   pub fits : r .column < rows
   pub long : Long gaps′ × Long givers′
@@ -64,23 +60,23 @@ pub record LookedAt (t : List ℤ) (n k row : ℕ) (l : List ℕ) (h : List ℤ)
 abbrev pub share : ℕ → Bool → ℕ
 share δ taken = cond taken δ 0
 
--- the gap g′ is g lowered by δ, if g is a gap
-pub record Lowered (δ g g′ : ℕ) : Type 0 where
-  pub kept : g ≡ none → g′ ≡ none
-  pub less : g < none → g′ + δ ≡ g
+-- the gap g′ is g narrowed by δ, if g is a gap
+pub record Narrowed (δ g g′ : ℕ) : Type 0 where
+  pub kept : g ≡ no-gap → g′ ≡ no-gap
+  pub less : g < no-gap → g′ + δ ≡ g
 
 -- a rise by δ that can be reckoned and leaves no gap below 0
 pub record Rising (n δ : ℕ) (l : List ℕ) (h : List ℤ) (gaps : List ℕ) : Type 0 where
   pub long : Long l × Long h × Long gaps
   pub small : n ≤ rows
-  pub rise : δ ≤ 2 * room
-  pub additions : (i : ℕ) → i < n → nums l i ≤ room
-  pub heads : (j : ℕ) → j < n → mag (ints h j) ≤ room + order
-  pub gap : (j : ℕ) → j < n → nums gaps j < none → δ ≤ nums gaps j
+  pub rise : δ ≤ 2 * ceiling
+  pub additions : (i : ℕ) → i < n → nums l i ≤ ceiling
+  pub heads : (j : ℕ) → j < n → mag (ints h j) ≤ ceiling + order
+  pub gap : (j : ℕ) → j < n → nums gaps j < no-gap → δ ≤ nums gaps j
 
--- the first k rows and columns after the rise: those of the tree are raised, the gaps lowered
+-- the first k rows and columns after the rise: those of the tree are raised, the gaps narrowed
 pub record RisenBy (k δ : ℕ) (tree reached : List Bool) (l : List ℕ) (h : List ℤ) (gaps l′ : List ℕ) (h′ : List ℤ) (gaps′ : List ℕ) : Type 0 where
   pub addition : (i : ℕ) → i < k → nums l′ i ≡ nums l i + share δ (flags tree i)
   pub head : (j : ℕ) → j < k → ints h′ j ≡ ints h j +ℤ pos (share δ (flags reached j))
-  pub gap : (j : ℕ) → j < k → Lowered δ (nums gaps j) (nums gaps′ j)
+  pub gap : (j : ℕ) → j < k → Narrowed δ (nums gaps j) (nums gaps′ j)
   pub long : Long l′ × Long h′ × Long gaps′

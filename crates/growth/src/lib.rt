@@ -5,29 +5,29 @@ ghost use lib.Signed.{mag};
 ghost use Rattle.theory.specs.Limits.{order};
 ghost use Rattle.theory.specs.Lists.{nums, ints};
 ghost use Rattle.theory.specs.Table.{Present, entry};
-ghost use Rattle.orders.specs.Places.{room, Square, Roomy};
-ghost use Rattle.growth.specs.Steps.{none, Long, Fitting, Nearer, Lesser, Joining, LookedAt, share, Lowered, Rising, RisenBy};
-ghost use Rattle.growth.specs.Standing.{Free, SomeWay, Flipped, SomeReady, SomeColumns, Met, Inserted, FirstOf};
-ghost use Rattle.growth.specs.Grown.{Startable, GrownFrom};
+ghost use Rattle.orders.specs.Places.{ceiling, Square, UnderCeiling};
+ghost use Rattle.orders.specs.Held.{Long, Startable};
+ghost use Rattle.growth.specs.Steps.{no-gap, Reckonable, Nearer, Lesser, Joining, LookedAt, share, Narrowed, Rising, RisenBy};
+ghost use Rattle.growth.specs.Growing.{Free, SomeWay, Flipped, SomeReady, SomeColumns, Met, Inserted, FirstOf};
+ghost use Rattle.growth.specs.Grown.{GrownFrom};
 use orders::ABSENT;
 use orders::ROWS;
 
 // What stands for the gap of a column in which no row of the tree has an order.
-pub const NONE: u32 = 4294967295;
+pub const NO_GAP: u32 = 4294967295;
 
-// The least canon from a start, if one is found: additions, heads, and the marks of a complete transversal of column maxima, the row
-// of each column and the column of each row.
+// The least canon from a start, if one is found: additions, and the marks of a complete transversal of column maxima, the row of each
+// column and the column of each row.
 pub struct Grown {
     pub found: bool,
     pub additions: [u32; ROWS],
-    pub heads: [i32; ROWS],
     pub rows: [usize; ROWS],
     pub columns: [usize; ROWS],
 }
 
 // How far a present raised order is below its column's head. Rules out every other number.
 fn gap(order: i16, addition: u32, head: i32) -> u32
-    requires { ⌜ Fitting order addition head × Present order ⌝ }
+    requires { ⌜ Reckonable order addition head × Present order ⌝ }
     ensures { λ r. ⌜ order +ℤ pos (addition + r) ≡ head ⌝ }
 {
     orders::excess(head, order) - addition
@@ -41,7 +41,7 @@ pub struct Way {
 
 // The nearer of a way into a column and the one from one more row. Rules out a way that no row gives, and a farther one.
 fn nearer(way: Way, order: i16, addition: u32, head: i32, row: usize) -> Way
-    requires { ⌜ Fitting order addition head ⌝ }
+    requires { ⌜ Reckonable order addition head ⌝ }
     ensures { λ r. ⌜ Nearer order addition head row (way .gap) (way .giver) (r .gap) (r .giver) ⌝ }
 {
     if order == ABSENT {
@@ -55,20 +55,20 @@ fn nearer(way: Way, order: i16, addition: u32, head: i32, row: usize) -> Way
 }
 
 // The least gap of the columns looked at, and its column.
-pub struct Least {
+pub struct LeastGap {
     pub gap: u32,
     pub column: usize,
 }
 
 // The lesser of the least gap and that of one more column. Rules out the greater of the two, and a gap with another column's
 // number.
-fn lesser(least: Least, gap: u32, column: usize) -> Least
+fn lesser(least: LeastGap, gap: u32, column: usize) -> LeastGap
     ensures { λ r. ⌜ Lesser least gap column r ⌝ }
 {
     if least.gap <= gap {
         return least;
     }
-    Least { gap, column }
+    LeastGap { gap, column }
 }
 
 // The least gap of the unreached columns, when one more row has joined the tree and the ways into them have taken it in. Rules out
@@ -82,7 +82,7 @@ fn look(
     reached: &[bool; ROWS],
     gaps: &mut [u32; ROWS],
     givers: &mut [usize; ROWS],
-) -> Least
+) -> LeastGap
     requires { ⌜ Joining (now table) n row (now additions) (now heads) (now gaps) (now givers) ⌝ }
     ensures { λ r. ⌜ LookedAt
         (now (table .entry))
@@ -98,8 +98,8 @@ fn look(
         (now (givers .exit))
         r ⌝ }
 {
-    let mut least = Least {
-        gap: NONE,
+    let mut least = LeastGap {
+        gap: NO_GAP,
         column: 0,
     };
     let addition = additions[row];
@@ -130,21 +130,21 @@ fn share(rise: u32, taken: bool) -> u32
 
 // A head raised. Rules out every other head.
 fn lift(head: i32, rise: u32) -> i32
-    requires { ⌜ (mag head ≤ room + order) × (rise ≤ 2 * room) ⌝ }
+    requires { ⌜ (mag head ≤ ceiling + order) × (rise ≤ 2 * ceiling) ⌝ }
     ensures { λ r. ⌜ r ≡ head +ℤ pos rise ⌝ }
 {
     head + rise as i32
 }
 
-// A gap lowered, if it is one. Rules out a gap made of what is none.
-fn lowered(gap: u32, rise: u32) -> u32
-    requires { ⌜ (gap < none → rise ≤ gap) ⌝ }
-    ensures { λ r. ⌜ Lowered rise gap r ⌝ }
+// A gap narrowed, if it is one. Rules out a gap made of what is none.
+fn narrowed(gap: u32, rise: u32) -> u32
+    requires { ⌜ (gap < no-gap → rise ≤ gap) ⌝ }
+    ensures { λ r. ⌜ Narrowed rise gap r ⌝ }
 {
-    if gap == NONE { gap } else { gap - rise }
+    if gap == NO_GAP { gap } else { gap - rise }
 }
 
-// The tree rises: its rows and the reached columns are raised, and the gaps lowered. Rules out a row or a column of the tree left
+// The tree rises: its rows and the reached columns are raised, and the gaps narrowed. Rules out a row or a column of the tree left
 // behind, and one outside raised with it.
 fn rise_by(
     n: usize,
@@ -175,7 +175,7 @@ fn rise_by(
     while i < n {
         additions[i] = additions[i] + share(rise, tree[i]);
         heads[i] = lift(heads[i], share(rise, reached[i]));
-        gaps[i] = lowered(gaps[i], rise);
+        gaps[i] = narrowed(gaps[i], rise);
         i += 1;
     }
 }
@@ -206,7 +206,7 @@ fn reach(
 {
     let mut tree = [false; ROWS];
     let mut reached = [false; ROWS];
-    let mut gaps = [NONE; ROWS];
+    let mut gaps = [NO_GAP; ROWS];
     let mut row = s;
     loop {
         tree[row] = true;
@@ -222,7 +222,7 @@ fn reach(
         );
         let rise = least.gap;
         let end = least.column;
-        if rise == NONE {
+        if rise == NO_GAP {
             return ROWS;
         }
         rise_by(
@@ -238,7 +238,7 @@ fn reach(
             return end;
         }
         reached[end] = true;
-        gaps[end] = NONE;
+        gaps[end] = NO_GAP;
         row = rows[end];
     }
 }
@@ -253,7 +253,7 @@ fn free_column(
     heads: &[i32; ROWS],
     rows: &[usize; ROWS],
 ) -> usize
-    requires { ⌜ Square (now table) n × (s < n) × (nums (now additions) s ≤ room) ⌝ }
+    requires { ⌜ Square (now table) n × (s < n) × (nums (now additions) s ≤ ceiling) ⌝ }
     ensures { λ r. ⌜ (r < n → Free n (entry (now (table .entry)) n) s (nums (now (additions .entry))) (ints (now (heads .entry))) (nums (now (rows .entry))) r) ⌝ }
 {
     let addition = additions[s];
@@ -389,7 +389,7 @@ fn insert(
 // The heads of all columns; false where a column has no order. Rules out a head that no order reaches or that one exceeds, and
 // false where every column has an order.
 fn first_heads(table: &[i16], n: usize, start: &[u32; ROWS], heads: &mut [i32; ROWS]) -> bool
-    requires { ⌜ Square (now table) n × Roomy n (now start) × Long (now heads) ⌝ }
+    requires { ⌜ Square (now table) n × UnderCeiling n (now start) × Long (now heads) ⌝ }
     ensures { λ r. ⌜ FirstOf (now (table .entry)) n (now (start .entry)) r (now (heads .exit)) ⌝ }
 {
     let mut j = 0;
@@ -405,8 +405,7 @@ fn first_heads(table: &[i16], n: usize, start: &[u32; ROWS], heads: &mut [i32; R
     true
 }
 
-// The least canon from a start, with a complete transversal of column maxima and the heads; or that there is no complete
-// transversal. Rules out additions that are no canon, a canon that is not the least, and an answer either way that is not so.
+// The least canon from a start, with a complete transversal of column maxima; or that there is no complete transversal. Rules out additions that are no canon, a canon that is not the least, and an answer either way that is not so.
 pub fn grow(n: usize, table: &[i16], start: [u32; ROWS]) -> Grown
     requires { ⌜ Startable (now table) n start ⌝ }
     ensures { λ r. ⌜ GrownFrom (now (table .entry)) n start r ⌝ }
@@ -432,7 +431,6 @@ pub fn grow(n: usize, table: &[i16], start: [u32; ROWS]) -> Grown
     Grown {
         found,
         additions,
-        heads,
         rows,
         columns,
     }

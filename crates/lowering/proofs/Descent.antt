@@ -14,10 +14,11 @@ use Rattle.theory.specs.Table.{Present, entry}
 use Rattle.theory.specs.Canon.{OfMaxima, Canon, AtMost, LeastFrom}
 use Rattle.theory.proofs.Signed.{up, dn, raised-le-ud, ud-raised-le}
 use Rattle.theory.proofs.Duality.{maxima-everywhere}
-use Rattle.orders.specs.Places.{room}
+use Rattle.orders.specs.Places.{ceiling}
 use Rattle.orders.proofs.Entries.{clash}
 use Rattle.orders.proofs.Flags.{all-unset, set-flag}
-use Rattle.lowering.specs.Descent.{LeastSlack, Spare, Fallen, PulledAt, CanonGiven, LoweredTo}
+use Rattle.orders.specs.Held.{LeastBy}
+use Rattle.lowering.specs.Descent.{LeastSlack, Spare, Fallen, PulledAt, CanonGiven}
 
 -- ---- one row of the fall
 pub fallen-open : {l : ℕ → ℕ} {settled : ℕ → Bool} {d i v : ℕ} → settled i ≡ false → v + d ≡ l i → Fallen l settled d i v
@@ -154,7 +155,7 @@ module _ {t : List ℤ} {n : ℕ} {columns canon floors : List ℕ} (g : CanonGi
   pub going-start : {k : ℕ} → LeastSlack n n canon floors (replicate rows false) k → Going t n columns canon floors canon floors (replicate rows false) k
   going-start s =
       record {
-        falling = falling-start n (entry t n) (nums columns) (nums floors) (nums canon) (flags (replicate rows false)) (g .of-maxima) (g .not-below) (all-unset rows);
+        falling = falling-start n (entry t n) (nums columns) (nums floors) (nums canon) (flags (replicate rows false)) (g .canon-by .of-maxima) (g .not-below) (all-unset rows);
         next = s;
         long = length-replicate rows false;
         not-above = λ i hi. omega arith;
@@ -176,8 +177,8 @@ module _ {t : List ℤ} {n : ℕ} {columns canon floors : List ℕ} (g : CanonGi
           lower true e = omega (arith, fallen i hi .stays e)
           lower false e = omega (arith, fallen i hi .falls e)
 
-      pub going-roomy : (i : ℕ) → i < n → nums additions′ i ≤ room
-      going-roomy i hi = omega (arith, going-lower i hi, go .not-above i hi, g .roomy i hi)
+      pub going-under : (i : ℕ) → i < n → nums additions′ i ≤ ceiling
+      going-under i hi = omega (arith, going-lower i hi, go .not-above i hi, g .canon-by .under-ceiling i hi)
 
       module _ (least′ : List ℕ) (pulled : (i : ℕ) → i < n → PulledAt (entry t n) (nums columns) (nums least) k (nums additions′ k) i (nums least′ i)) where
         pub going-falling : Falling n (entry t n) (nums columns) (nums floors) (nums additions′) (nums least′) (flags (set settled k true))
@@ -199,10 +200,12 @@ module _ {t : List ℤ} {n : ℕ} {columns canon floors : List ℕ} (g : CanonGi
             }
 
   pub going-end : {additions least : List ℕ} {settled : List Bool} {k : ℕ} → Going t n columns canon floors additions least settled k → n ≤ k
-      → LoweredTo t n columns canon floors additions
+      → LeastBy t n (nums floors) additions columns
   going-end go hk =
       record {
-        least-from = falling-end n (entry t n) (nums columns) (nums floors) (go .falling) (λ i hi. go .next .none (omega (arith, go .next .within)) i hi);
-        of-maxima = go .falling .of-maxima;
-        not-above = go .not-above;
+        least = falling-end n (entry t n) (nums columns) (nums floors) (go .falling) (λ i hi. go .next .none (omega (arith, go .next .within)) i hi);
+        canon = record {
+          of-maxima = go .falling .of-maxima;
+          under-ceiling = λ i hi. omega (arith, go .not-above i hi, g .canon-by .under-ceiling i hi);
+        };
       }

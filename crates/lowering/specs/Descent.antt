@@ -7,9 +7,10 @@ use Prim.Native.Nat.{ℕ, _+_, _-_, _≤_, _<_}
 use lib.IntN.{ℤ, pos, _+ℤ_}
 use lib.Signed.{_≤ℤ_}
 use Rattle.theory.specs.Lists.{nums, flags}
-use Rattle.theory.specs.Table.{Present, entry}
-use Rattle.theory.specs.Canon.{AtMost, OfMaxima, LeastFrom}
-use Rattle.orders.specs.Places.{Square, Roomy}
+use Rattle.theory.specs.Table.{Present}
+use Rattle.theory.specs.Canon.{AtMost}
+use Rattle.orders.specs.Places.{Square}
+use Rattle.orders.specs.Held.{CanonBy}
 
 -- r is, of the first k rows, the unsettled one with the least amount to fall to its floor, or n where all of them are settled
 pub record LeastSlack (n k : ℕ) (l floors : List ℕ) (settled : List Bool) (r : ℕ) : Type 0 where
@@ -39,15 +40,8 @@ pub record PulledAt (a : ℕ → ℕ → ℤ) (column-of floors : ℕ → ℕ) (
   pub enough : Present (a k (column-of i)) → (a k (column-of i) +ℤ pos settled-at) ≤ℤ (a i (column-of i) +ℤ pos v)
   pub least : (m : ℕ) → floors i ≤ m → (Present (a k (column-of i)) → (a k (column-of i) +ℤ pos settled-at) ≤ℤ (a i (column-of i) +ℤ pos m)) → v ≤ m
 
--- what is handed in: a canon with a transversal of column maxima, nowhere below the floors
+-- what is handed in: a canon by a transversal, nowhere below the floors
 pub record CanonGiven (t : List ℤ) (n : ℕ) (column-of canon floors : List ℕ) : Type 0 where
   pub square : Square t n
-  pub of-maxima : OfMaxima n (entry t n) (nums canon) (nums column-of)
+  pub canon-by : CanonBy t n canon column-of
   pub not-below : AtMost n (nums floors) (nums canon)
-  pub roomy : Roomy n canon
-
--- what comes out: the least canon from the floors, with the same transversal
-pub record LoweredTo (t : List ℤ) (n : ℕ) (column-of canon floors r : List ℕ) : Type 0 where
-  pub least-from : LeastFrom n (entry t n) (nums floors) (nums r)
-  pub of-maxima : OfMaxima n (entry t n) (nums r) (nums column-of)
-  pub not-above : AtMost n (nums r) (nums canon)

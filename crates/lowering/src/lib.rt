@@ -3,8 +3,9 @@ ghost use Rattle.theory.specs.Limits.{rows};
 ghost use Rattle.theory.specs.Lists.{nums, flags};
 ghost use Rattle.theory.specs.Table.{entry};
 ghost use Rattle.theory.specs.Canon.{AtMost};
-ghost use Rattle.orders.specs.Places.{room, Square};
-ghost use Rattle.lowering.specs.Descent.{LeastSlack, Spare, Fallen, Pull, PulledAt, CanonGiven, LoweredTo};
+ghost use Rattle.orders.specs.Places.{ceiling, Square};
+ghost use Rattle.orders.specs.Held.{LeastBy};
+ghost use Rattle.lowering.specs.Descent.{LeastSlack, Spare, Fallen, Pull, PulledAt, CanonGiven};
 use orders::ABSENT;
 use orders::ROWS;
 use orders::excess;
@@ -60,7 +61,7 @@ fn lowered(n: usize, additions: [u32; ROWS], settled: &[bool; ROWS], d: u32) -> 
 // The least addition at which an order is not exceeded by another of its column, raised. Rules out an addition that leaves the
 // order exceeded, and a larger one than is needed.
 fn pull(other: i16, addition: u32, order: i16) -> u32
-    requires { ⌜ addition ≤ room ⌝ }
+    requires { ⌜ addition ≤ ceiling ⌝ }
     ensures { λ r. ⌜ Pull other addition order r ⌝ }
 {
     let raised = raise(other, addition);
@@ -80,7 +81,7 @@ fn pulled(
     floors: [u32; ROWS],
     k: usize,
 ) -> [u32; ROWS]
-    requires { ⌜ Square (now table) n × (k < n) × (addition ≤ room) × ((i : ℕ) → i < n → nums (now columns) i < n) ⌝ }
+    requires { ⌜ Square (now table) n × (k < n) × (addition ≤ ceiling) × ((i : ℕ) → i < n → nums (now columns) i < n) ⌝ }
     ensures { λ r. ⌜ ((i : ℕ) → i < n → PulledAt (entry (now (table .entry)) n) (nums (now (columns .entry))) (nums floors) k addition i (nums r i)) ⌝ }
 {
     let mut next = floors;
@@ -109,7 +110,7 @@ pub fn lower(
     floors: [u32; ROWS],
 ) -> [u32; ROWS]
     requires { ⌜ CanonGiven (now table) n (now columns) canon floors ⌝ }
-    ensures { λ r. ⌜ LoweredTo (now (table .entry)) n (now (columns .entry)) canon floors r ⌝ }
+    ensures { λ r. ⌜ LeastBy (now (table .entry)) n (nums floors) r (now (columns .entry)) ⌝ }
 {
     let mut additions = canon;
     let mut least = floors;

@@ -8,7 +8,7 @@ use native.Mathlib.Omega.{arith}
 use lib.Dec.{eqb}
 use lib.IntN.{ℤ, pos, negsuc, _+ℤ_, negℤ}
 use lib.ListN.{getD}
-use lib.Signed.{_≤ℤ_, ltZ, leZ, mag}
+use lib.Signed.{_≤ℤ_, ltZ, leZ, mag, _<ℤ_}
 use borrow.Author.Tests.{eqb-true, eqb-false}
 use mir.Syntax.{Width, w16, w32}
 use mir.Val.{SFits, ofZ, toZ, hbits}
@@ -36,6 +36,14 @@ absent-bits (negsuc n) f e = let m : n ≡ 32767 = omega (arith, f .sfits) in rw
 
 pub present-bits : (v : ℤ) → (ofZ w16 v ≡ 32768 → ⊥) → Present v
 present-bits v ne e = ne (rw e refl)
+
+-- −32768 is the least number of 16 bits, so an order is above it
+pub present-above : (v : ℤ) → SFits w16 v → Present v → absent <ℤ v
+present-above v f p = strictly (ltZ absent v) refl
+  where
+    strictly : (b : Bool) → ltZ absent v ≡ b → absent <ℤ v
+    strictly true e = omega (arith, signed)
+    strictly false e = absurd (p (omega (arith, signed)))
 
 -- what a signed number of memory reads back as
 pub back : (w : Width) (z : ℤ) → mag z < 2 ^ hbits w → toZ w (ofZ w z) ≡ z

@@ -1,16 +1,17 @@
 -- Flags that are set one after the other: how many are still unset, as a measure. Assumes nothing.
-use mathlib.Core.Path.{_≡_, refl, sym, _∙_}
+use mathlib.Core.Path.{_≡_, refl, sym, _∙_, ap}
 use mathlib.Core.Logic.{_⊎_, inl, inr}
 use mathlib.Core.Bool.{Bool, true, false, cond}
 use mathlib.Core.List.{List}
-use Prim.Native.Nat.{ℕ, zero, suc, _≤_, _<_}
+use Prim.Native.Nat.{ℕ, zero, suc, _≤_, _<_, _+_}
 use native.Mathlib.Decide.{ℕ-discrete}
 use native.Mathlib.Omega.{arith}
-use lib.ListN.{length, getD, set, replicate}
-use lib.Seq.{getD-set-same, getD-set-other}
+use lib.ListN.{getD, set, replicate}
+use lib.Seq.{getD-set-other}
 use Rattle.theory.specs.Lists.{flags}
 use Rattle.theory.specs.Totals.{totalℕ}
-use Rattle.theory.proofs.Totals.{total-lt}
+use Rattle.theory.proofs.Totals.{total-bound, total-change}
+use Rattle.orders.proofs.Stores.{Put}
 
 -- a fresh array has its one value everywhere, also past its end if that is what a read there gives
 pub fresh : {X : Type 0} (m i : ℕ) (d : X) → getD (replicate m d) i d ≡ d
@@ -31,17 +32,24 @@ abbrev weight : Bool → ℕ
 weight b = cond b 0 1
 
 -- how many of the first n flags are unset
-pub unset : ℕ → List Bool → ℕ
-unset n f = totalℕ n (λ i. weight (flags f i))
+pub unset : ℕ → (ℕ → Bool) → ℕ
+unset n f = totalℕ n (λ i. weight (f i))
 
--- setting an unset flag leaves fewer
-pub unset-less : (n : ℕ) (f : List Bool) (k : ℕ) → k < n → k < length f → flags f k ≡ false → unset n (set f k true) < unset n f
+pub unset-most : (n : ℕ) (f : ℕ → Bool) → unset n f ≤ n
 unfolding unset
-unset-less n f k hk hl e = total-lt n (λ i. weight (flags (set f k true) i)) (λ i. weight (flags f i)) k (λ i hi. le i (ℕ-discrete i k)) hk here
+unset-most n f = omega (arith, total-bound n 1 (λ i. weight (f i)) (λ i h. at-most (f i)))
   where
-    here : weight (flags (set f k true) k) < weight (flags f k)
-    here = rw (getD-set-same f k true false hl, e) (omega arith)
+    at-most : (b : Bool) → weight b ≤ 1
+    at-most true = omega arith
+    at-most false = omega arith
 
-    le : (i : ℕ) → Dec (i ≡ k) → weight (flags (set f k true) i) ≤ weight (flags f i)
-    le i (yes d) = rw d (omega (arith, here))
-    le i (no ne) = rw (getD-set-other f k i true false ne) (omega arith)
+-- setting an unset flag leaves one fewer
+pub unset-fewer : (n : ℕ) {f f′ : ℕ → Bool} {k : ℕ} → k < n → f k ≡ false → Put f f′ k true → unset n f′ + 1 ≡ unset n f
+unfolding unset
+unset-fewer n {f} {f′} {k} h e p =
+    omega (
+      arith,
+      total-change n (λ i. weight (f i)) (λ i. weight (f′ i)) k h (λ x hx ne. ap weight (p .off x ne)),
+      ap weight e,
+      ap weight (p .at),
+    )

@@ -1,5 +1,5 @@
 -- Places of a square table row by row, and the head of a column one row after the other. Assumes nothing.
-use mathlib.Core.Path.{_≡_, refl, sym, _∙_, ap}
+use mathlib.Core.Path.{_≡_, refl}
 use mathlib.Core.Bool.{Bool, true, false}
 use mathlib.Core.List.{List}
 use mathlib.Core.Logic.{_⊎_, inl, inr}
@@ -7,17 +7,19 @@ use Prim.Native.Nat.{ℕ, _+_, _*_, _≤_, _<_}
 use native.Mathlib.Nat.{mul-le-mul-right}
 use native.Mathlib.Decide.{ℕ-discrete}
 use native.Mathlib.Omega.{arith}
-use lib.IntN.{ℤ, pos, _+ℤ_, ℤ-discrete}
+use lib.IntN.{ℤ, pos, _+ℤ_}
 use lib.ListN.{length}
-use lib.Signed.{_≤ℤ_, ≤ℤ-refl}
+use lib.Signed.{_≤ℤ_, ≤ℤ-refl, _<ℤ_, leZ}
 use Rattle.theory.specs.Limits.{rows}
 use Rattle.theory.specs.Lists.{nums}
 use Rattle.theory.specs.Table.{absent, Present, entry, Entries, WithinLimit}
 use Rattle.theory.specs.Canon.{Head}
-use Rattle.theory.proofs.Signed.{signed}
-use Rattle.orders.specs.Places.{TopOf, Taller}
+use Rattle.theory.proofs.Signed.{signed, plus}
+use Rattle.orders.specs.Places.{TopOf, Higher}
 use Rattle.orders.specs.declared.Top.{Top}
-use Rattle.orders.proofs.Entries.{clash}
+use Rattle.orders.proofs.Entries.{clash, present-above}
+use mir.Syntax.{w16}
+use mir.Val.{SFits}
 
 -- the place of row i and column j is one of the n × n
 pub cell : (n i j : ℕ) → i < n → j < n → i * n + j < n * n
@@ -54,74 +56,65 @@ module _ (a : ℕ → ℕ → ℤ) (l : ℕ → ℕ) (j k : ℕ) where
       go x hx p (yes e) = rw e (≤ℤ-refl (a k j +ℤ pos (l k)))
       go x hx p (no ne) = below x (omega arith) p
 
-module _ (t : List ℤ) (n k : ℕ) (l : List ℕ) (j : ℕ) where
-  pub top-more : (top r : Top) → TopOf t n k l j top → Taller (entry t n k j) (nums l k) top r → TopOf t n (k + 1) l j r
-  top-more top r o w = go (ℤ-discrete (entry t n k j) absent)
+-- h is the head of column j among the first k rows, or `absent` where none of them is present: every raised order is above that
+pub record HeightOf (t : List ℤ) (n k : ℕ) (l : List ℕ) (j : ℕ) (h : ℤ) : Type 0 where
+  pub head : absent <ℤ h → Head k (entry t n) (nums l) j h
+  pub empty : h ≤ℤ absent → (i : ℕ) → i < k → Present (entry t n i j) → ⊥
+
+pub height-none : (t : List ℤ) (n : ℕ) (l : List ℕ) (j : ℕ) → HeightOf t n 0 l j absent
+height-none t n l j = record { head = λ lt. absurd (omega (arith, signed)); empty = λ le i h. absurd (omega arith) }
+
+module _ {t : List ℤ} {n k : ℕ} {l : List ℕ} {j : ℕ} {h h′ : ℤ} (o : HeightOf t n k l j h) (fits : SFits w16 (entry t n k j))
+    (w : Higher (entry t n k j) (nums l k) h h′) where
+  -- a present order, raised, is above `absent`
+  above : Present (entry t n k j) → absent <ℤ h′
+  above p = let ne = present-above (entry t n k j) fits p in omega (arith, signed, w .this p, plus (entry t n k j) (pos (nums l k)))
+
+  -- the rows before do not pass the new height
+  before : (x : ℕ) → x < k → Present (entry t n x j) → (entry t n x j +ℤ pos (nums l x)) ≤ℤ h′
+  before x hx p = go (leZ h absent) refl
     where
-      -- the head under a row that has no order
-      less : (x : ℕ) → entry t n k j ≡ absent → top .present ≡ false → x < k + 1 → Present (entry t n x j) → Dec (x ≡ k) → ⊥
-      less x e none hx p (yes is) = p (rw is e)
-      less x e none hx p (no ne) = o .empty none x (omega arith) p
+      go : (b : Bool) → leZ h absent ≡ b → (entry t n x j +ℤ pos (nums l x)) ≤ℤ h′
+      go true e = absurd (o .empty (omega (arith, signed)) x hx p)
+      go false e = let r = o .head (omega (arith, signed)) in omega (arith, signed, r .maximum .unexceeded x hx p, r .is, w .other)
 
-      -- the rows before one that has an order
-      old : Present (entry t n k j) → (b : Bool) → top .present ≡ b → (x : ℕ) → x < k → Present (entry t n x j) → (entry t n x j +ℤ pos (nums l x)) ≤ℤ r .head
-      old here true e x hx p =
-          let h = o .head e in
-          omega (arith, signed, h .maximum .unexceeded x hx p, h .is, w .other here e)
-      old here false e x hx p = absurd (o .empty e x hx p)
+  more : absent <ℤ h′ → (h′ ≡ h) ⊎ (Present (entry t n k j) × (h′ ≡ entry t n k j +ℤ pos (nums l k))) → Head (k + 1) (entry t n) (nums l) j h′
+  more lt (inl e) = head-kept (entry t n) (nums l) j k (rw e (o .head (rw e at lt))) (w .this)
+  more lt (inr (p, e)) = rw e (head-new (entry t n) (nums l) j k p (λ x hx q. rw e at (before x hx q)))
 
-      taken : Present (entry t n k j) → (r ≡ top) ⊎ (r .head ≡ entry t n k j +ℤ pos (nums l k)) → Head (k + 1) (entry t n) (nums l) j (r .head)
-      taken here (inl e) = head-kept (entry t n) (nums l) j k (rw e (o .head (ap (λ (z : Top). z .present) (sym e) ∙ w .marked here))) (w .this)
-      taken here (inr e) =
-          rw e (head-new (entry t n) (nums l) j k here (λ x hx p. rw e at (old here (top .present) refl x hx p)))
-
-      go : Dec (entry t n k j ≡ absent) → TopOf t n (k + 1) l j r
-      go (yes e) =
-          rw (w .without e)
-          record {
-            head = λ m. head-kept (entry t n) (nums l) j k (o .head m) (λ p. absurd (p e));
-            empty = λ m x hx p. less x e m hx p (ℕ-discrete x k);
-            zero = λ m. o .zero m;
-          }
-      go (no here) =
-          record {
-            head = λ m. taken here (w .one here);
-            empty = λ m. clash (w .marked here) m;
-            zero = λ m. clash (w .marked here) m;
-          }
-
--- before the first row no order is known
-pub top-none : (t : List ℤ) (n : ℕ) (l : List ℕ) (j : ℕ) → TopOf t n 0 l j (record { present = false; head = pos 0 })
-top-none t n l j = record { head = λ m. clash m refl; empty = λ m i h p. omega arith; zero = λ m. refl }
-
--- ---- the ways through the choice of the greater
-module _ (v : ℤ) (l : ℕ) (top : Top) where
-  pub taller-none : v ≡ absent → Taller v l top top
-  taller-none e =
+  pub height-more : HeightOf t n (k + 1) l j h′
+  height-more =
       record {
-        without = λ z. refl;
-        marked = λ p. absurd (p e);
-        this = λ p. absurd (p e);
-        other = λ p. absurd (p e);
-        one = λ p. absurd (p e);
+        head = λ lt. more lt (w .one);
+        empty = λ le x hx p.
+            elim (ℕ-discrete x k) [
+              | yes e ↦ omega (arith, signed, above (rw e at p))
+              | no ne ↦ o .empty (omega (arith, signed, w .other)) x (omega arith) p
+            ];
       }
 
-  pub taller-kept : top .present ≡ true → (v +ℤ pos l) ≤ℤ top .head → Taller v l top top
-  taller-kept m le =
-      record { without = λ z. refl; marked = λ p. m; this = λ p. le; other = λ p e. ≤ℤ-refl (top .head); one = λ p. inl refl }
+-- once all rows are passed: the column has no order, or the height is its head
+pub top-empty : {t : List ℤ} {n : ℕ} {l : List ℕ} {j : ℕ} {h : ℤ} → HeightOf t n n l j h → h ≤ℤ absent
+    → TopOf t n l j (record { present = false; head = pos 0 })
+top-empty o le = record { head = λ m. clash m refl; empty = λ m. o .empty le; zero = λ m. refl }
 
-  pub taller-taken : (h : ℤ) → Present v → h ≡ v +ℤ pos l → (top .present ≡ true → top .head ≤ℤ h) → Taller v l top (record { present = true; head = h })
-  taller-taken h p e le =
-      record {
-        without = λ z. absurd (p z);
-        marked = λ q. refl;
-        this = λ q. rw e (≤ℤ-refl (v +ℤ pos l));
-        other = λ q. le;
-        one = λ q. inr e;
-      }
+pub top-found : {t : List ℤ} {n : ℕ} {l : List ℕ} {j : ℕ} {h : ℤ} → HeightOf t n n l j h → absent <ℤ h
+    → TopOf t n l j (record { present = true; head = h })
+top-found o lt = record { head = λ m. o .head lt; empty = λ m. clash refl m; zero = λ m. clash refl m }
+
+-- ---- the ways through the choice of the larger
+module _ (v : ℤ) (l : ℕ) (height : ℤ) where
+  pub higher-none : v ≡ absent → Higher v l height height
+  higher-none e = record { this = λ p. absurd (p e); other = ≤ℤ-refl height; one = inl refl }
+
+  pub higher-kept : (v +ℤ pos l) ≤ℤ height → Higher v l height height
+  higher-kept le = record { this = λ p. le; other = ≤ℤ-refl height; one = inl refl }
+
+  pub higher-taken : (h : ℤ) → Present v → h ≡ v +ℤ pos l → height ≤ℤ h → Higher v l height h
+  higher-taken h p e le = record { this = λ q. rw e (≤ℤ-refl (v +ℤ pos l)); other = le; one = inr (p, e) }
 
 -- a column in which row i is present has a head
-pub top-head : {t : List ℤ} {n j i : ℕ} {l : List ℕ} {r : Top} → i < n → Present (entry t n i j) → TopOf t n n l j r → Head n (entry t n) (nums l) j (r .head)
+pub top-head : {t : List ℤ} {n j i : ℕ} {l : List ℕ} {r : Top} → i < n → Present (entry t n i j) → TopOf t n l j r → Head n (entry t n) (nums l) j (r .head)
 top-head {t} {n} {j} {i} {l} {r} hi p o = go (r .present) refl
   where
     go : (b : Bool) → r .present ≡ b → Head n (entry t n) (nums l) j (r .head)

@@ -2,3 +2,4 @@
 pub mod Refusals
 pub mod Tested
 pub mod Places
+pub mod Held

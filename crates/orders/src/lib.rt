@@ -3,7 +3,7 @@ ghost use Rattle.theory.specs.Table.{Present, Order, Entries};
 ghost use Rattle.theory.specs.Limits.{order};
 ghost use Rattle.orders.specs.Refusals.{numberOf};
 ghost use Rattle.orders.specs.Tested.{Tells};
-ghost use Rattle.orders.specs.Places.{room, Square, Roomy, TopOf, Taller};
+ghost use Rattle.orders.specs.Places.{ceiling, Square, UnderCeiling, TopOf, Higher};
 ghost use Rattle.theory.specs.Table.{entry};
 ghost use Prim.Native.Nat.{_*_, _≤_, _<_};
 ghost use lib.IntN.{pos, _+ℤ_};
@@ -96,7 +96,7 @@ pub fn place(table: &[i16], n: usize, i: usize, j: usize) -> i16
 
 // An order raised by an addition. Rules out every other number.
 pub fn raise(order: i16, addition: u32) -> i32
-    requires { ⌜ addition ≤ room ⌝ }
+    requires { ⌜ addition ≤ ceiling ⌝ }
     ensures { λ r. ⌜ r ≡ order +ℤ pos addition ⌝ }
 {
     order as i32 + addition as i32
@@ -104,7 +104,7 @@ pub fn raise(order: i16, addition: u32) -> i32
 
 // How far a height is above an order that does not pass it. Rules out every other number.
 pub fn excess(height: i32, order: i16) -> u32
-    requires { ⌜ (order ≤ℤ height) × (height ≤ℤ pos (2 * room)) ⌝ }
+    requires { ⌜ (order ≤ℤ height) × (height ≤ℤ pos (2 * ceiling)) ⌝ }
     ensures { λ r. ⌜ order +ℤ pos r ≡ height ⌝ }
 {
     (height - order as i32) as u32
@@ -112,7 +112,7 @@ pub fn excess(height: i32, order: i16) -> u32
 
 // Is an order present and, raised, the head given? Rules out an absent place taken for an order, and another head.
 pub fn tight(order: i16, addition: u32, head: i32) -> bool
-    requires { ⌜ addition ≤ room ⌝ }
+    requires { ⌜ addition ≤ ceiling ⌝ }
     ensures { λ r. ⌜ Tells r (Present order × (order +ℤ pos addition ≡ head)) ⌝ }
 {
     if order == ABSENT {
@@ -121,48 +121,49 @@ pub fn tight(order: i16, addition: u32, head: i32) -> bool
     raise(order, addition) == head
 }
 
-// A column's head, as far as it is known: whether an order is present, and the largest raised order.
+// A column's head: whether an order is present, and the largest raised order.
 pub struct Top {
     pub present: bool,
     pub head: i32,
 }
 
-// The greater of a head and one more order of the column, raised. Rules out the smaller of the two, and an absent place taken for
-// an order.
-fn taller(top: Top, order: i16, addition: u32) -> Top
-    requires { ⌜ addition ≤ room ⌝ }
-    ensures { λ r. ⌜ Taller order addition top r ⌝ }
+// The larger of a height and one more order of the column, raised; an absent place is passed over. Rules out the smaller of the two,
+// an absent place taken for an order, and a height of no row.
+fn higher(height: i32, order: i16, addition: u32) -> i32
+    requires { ⌜ addition ≤ ceiling ⌝ }
+    ensures { λ r. ⌜ Higher order addition height r ⌝ }
 {
     if order == ABSENT {
-        return top;
+        return height;
     }
     let raised = raise(order, addition);
-    if top.present {
-        if raised <= top.head {
-            return top;
-        }
+    if raised <= height {
+        return height;
     }
-    Top {
-        present: true,
-        head: raised,
-    }
+    raised
 }
 
-// The head of column j with the additions given. Rules out a head that no order reaches or that one exceeds, and an absent column
-// taken for one with the head 0.
+// The head of column j with the additions given. The height begins below every raised order, and is still there where the column has
+// none. Rules out a head that no order reaches or that one exceeds, and an absent column taken for one with the head 0.
 pub fn head(table: &[i16], n: usize, additions: &[u32; ROWS], j: usize) -> Top
-    requires { ⌜ Square (now table) n × (j < n) × Roomy n (now additions) ⌝ }
-    ensures { λ r. ⌜ TopOf (now (table .entry)) n n (now (additions .entry)) j r ⌝ }
+    requires { ⌜ Square (now table) n × (j < n) × UnderCeiling n (now additions) ⌝ }
+    ensures { λ r. ⌜ TopOf (now (table .entry)) n (now (additions .entry)) j r ⌝ }
 {
-    let mut top = Top {
-        present: false,
-        head: 0,
-    };
+    let mut height = ABSENT as i32;
     let mut i = 0;
     while i < n {
         let order = place(table, n, i, j);
-        top = taller(top, order, additions[i]);
+        height = higher(height, order, additions[i]);
         i += 1;
     }
-    top
+    if height <= ABSENT as i32 {
+        return Top {
+            present: false,
+            head: 0,
+        };
+    }
+    Top {
+        present: true,
+        head: height,
+    }
 }

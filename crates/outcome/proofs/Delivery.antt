@@ -11,8 +11,9 @@ use Rattle.theory.specs.Lists.{nums, columns, StarList}
 use Rattle.theory.specs.Table.{entry}
 use Rattle.theory.specs.Canon.{Stars}
 use Rattle.theory.proofs.Unique.{stars-rows, sum-same}
-use Rattle.outcome.specs.Completion.{Settled, Lent, WholeOf, HandedOut, Delivered}
-use Rattle.outcome.specs.declared.Whole.{Whole}
+use Rattle.outcome.specs.Completion.{Slices, WholeAnswerOf, HandedOut, Delivered}
+use Rattle.outcome.specs.declared.WholeAnswer.{WholeAnswer}
+use Rattle.orders.specs.Held.{Long}
 
 -- stars from 1 whose columns, from 0, are those of the first transversal are a star list
 pub star-list : {n : ℕ} {a : ℕ → ℕ → ℤ} {l : ℕ → ℕ} {s : List ℕ} → length s ≡ n → ((i : ℕ) → i < n → 1 ≤ nums s i) → Stars n a l (columns s)
@@ -27,16 +28,16 @@ star-list long one st =
     }
 
 -- as many as the slice has places are copied
-cut : {X : Type 0} {n : ℕ} (lent from : List X) → n ≤ rows → length lent ≡ n → length from ≡ rows → length (take (length lent) from) ≡ n
+cut : {X : Type 0} {n : ℕ} (lent from : List X) → n ≤ rows → length lent ≡ n → Long from → length (take (length lent) from) ≡ n
 cut {X} {n} lent from small p q = length-take (length lent) from ∙ least
   where
     least : min (length lent) (length from) ≡ n
     least = omega arith
 
-pub delivery : {t : List ℤ} {n : ℕ} {l row-of column-of adds stars : List ℕ} {heads : List ℤ} {w : Whole} {adds′ stars′ : List ℕ} {heads′ : List ℤ}
-    → Settled t n l row-of column-of → Lent n adds stars heads → length (w .additions) ≡ rows → length (w .stars) ≡ rows → length (w .heads) ≡ rows
-    → WholeOf t n l w → HandedOut w adds stars heads adds′ stars′ heads′ → Delivered t n l (w .sum) adds′ stars′ heads′
-delivery {t} {n} {l} {row-of} {column-of} {adds} {stars} {heads} {w} {adds′} {stars′} {heads′} settled lent wide-adds wide-stars wide-heads whole out =
+pub delivery : {t : List ℤ} {n : ℕ} {l adds stars : List ℕ} {heads : List ℤ} {w : WholeAnswer} {adds′ stars′ : List ℕ} {heads′ : List ℤ}
+    → n ≤ rows → Slices n adds stars heads → Long (w .additions) → Long (w .stars) → Long (w .heads)
+    → WholeAnswerOf t n l w → HandedOut w adds stars heads adds′ stars′ heads′ → Delivered t n l (w .sum) adds′ stars′ heads′
+delivery {t} {n} {l} {adds} {stars} {heads} {w} {adds′} {stars′} {heads′} small lent wide-adds wide-stars wide-heads whole out =
     record {
       adds-long = ap length (out .adds-are) ∙ cut adds (w .additions) small (lent .adds-long) wide-adds;
       adds-are = λ i hi.
@@ -50,9 +51,6 @@ delivery {t} {n} {l} {row-of} {column-of} {adds} {stars} {heads} {w} {adds′} {
       is-sum = whole .is-sum ∙ sum-same n (entry t n) (λ i hi. ap (λ (x : ℕ). x - 1) (same-stars i hi));
     }
   where
-    small : n ≤ rows
-    small = settled .square .small
-
     same-stars : (i : ℕ) → i < n → nums (w .stars) i ≡ nums stars′ i
     same-stars i hi = rw (out .stars-are, getD-take (length stars) (w .stars) i 0 (omega (arith, lent .stars-long)))
 

@@ -1,6 +1,5 @@
 -- The heads, the sum and the numbers of the stars. Assumes nothing.
 use mathlib.Core.Path.{_≡_, refl, _∙_}
-use mathlib.Core.Bool.{Bool, true, false}
 use mathlib.Core.List.{List}
 use Prim.Native.Nat.{ℕ, _+_, _-_, _*_, _≤_, _<_}
 use native.Mathlib.Numerals.{add-one}
@@ -12,20 +11,17 @@ use mir.Val.{SFits}
 use Rattle.theory.specs.Lists.{nums, ints, columns}
 use Rattle.theory.specs.Totals.{total}
 use Rattle.theory.specs.Table.{entry, Order}
-use Rattle.theory.specs.Canon.{Head, Heads, OfMaxima, Stars, sum}
+use Rattle.theory.specs.Canon.{Head, Heads, Stars, sum}
 use Rattle.theory.proofs.Signed.{plus, signed, below-zero}
-use Rattle.orders.specs.Places.{TopOf, Marks}
-use Rattle.orders.specs.declared.Top.{Top}
+use Rattle.orders.specs.Places.{Marks}
+use Rattle.orders.specs.Held.{CanonBy}
 use Rattle.theory.proofs.Unique.{stars-rows, sum-same}
-use Rattle.outcome.specs.Completion.{Occupied, WholeOf}
+use Rattle.outcome.specs.Completion.{RowsHold, WholeAnswerOf}
 
--- the head of an occupied column is found
-pub head-found : {t : List ℤ} {n j : ℕ} {l : List ℕ} {r : Top} → Occupied n (entry t n) → j < n → TopOf t n n l j r → Head n (entry t n) (nums l) j (r .head)
-head-found {t} {n} {j} {l} {r} full hj o = go (r .present) refl
-  where
-    go : (b : Bool) → r .present ≡ b → Head n (entry t n) (nums l) j (r .head)
-    go true e = o .head e
-    go false e = let (i, hi, p) = full j hj in absurd (o .empty e i hi p)
+-- the raised order of the row that is marked in a column is the column's head
+pub head-marked : {t : List ℤ} {n j : ℕ} {l row-of : List ℕ} {h : ℤ} → RowsHold t n l row-of → j < n
+    → h ≡ entry t n (nums row-of j) j +ℤ pos (nums l (nums row-of j)) → Head n (entry t n) (nums l) j h
+head-marked {j = j} w hj e = record { row = _; inside = w .inside j hj; maximum = w .maximum j hj; is = e }
 
 pub total-none : (f : ℕ → ℤ) → total 0 f ≡ pos 0
 unfolding total
@@ -52,15 +48,15 @@ sum-near z v i f o =
       high = omega (arith, signed, plus z v, o .high);
     }
 
--- every column has the order of its marked row
-pub occupied : {n : ℕ} {a : ℕ → ℕ → ℤ} {l row-of column-of : ℕ → ℕ} → OfMaxima n a l column-of → Marks n row-of column-of → Occupied n a
-occupied {n} {a} {l} {row-of} {column-of} c m j hj =
-    (row-of j, m .row j hj, rw (m .forth j hj) at (c .transversal .present (row-of j) (m .row j hj)))
+-- where the marks undo each other, the rows marked hold the maxima of their columns
+pub rows-hold : {t : List ℤ} {n : ℕ} {l row-of column-of : List ℕ} → CanonBy t n l column-of → Marks n (nums row-of) (nums column-of) → RowsHold t n l row-of
+rows-hold c m =
+    record { inside = m .row; maximum = λ j hj. rw (m .forth j hj) at (c .of-maxima .maximum _ (m .row j hj)) }
 
 -- numbered from 1, the first stars are still the first, with the same sum
 pub completed-whole : (t : List ℤ) (n : ℕ) (l first s : List ℕ) (h : List ℤ) (z : ℤ) → Heads n (entry t n) (nums l) (ints h)
     → Stars n (entry t n) (nums l) (nums first) → z ≡ sum n (entry t n) (nums first) → ((i : ℕ) → i < n → nums s i ≡ nums first i + 1)
-    → WholeOf t n l (record { additions = l; stars = s; heads = h; sum = z })
+    → WholeAnswerOf t n l (record { additions = l; stars = s; heads = h; sum = z })
 completed-whole t n l first s h z heads stars e f =
     record {
       same = refl;

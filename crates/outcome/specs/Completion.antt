@@ -5,24 +5,17 @@ use Prim.Native.Nat.{ℕ, _≤_, _<_}
 use lib.IntN.{ℤ}
 use lib.ListN.{length, take}
 use Rattle.theory.specs.Lists.{nums, ints, columns, StarList}
-use Rattle.theory.specs.Table.{Present, entry}
-use Rattle.theory.specs.Canon.{OfMaxima, Heads, Stars, sum}
-use Rattle.orders.specs.Places.{Square, Roomy, Marks}
-use Rattle.outcome.specs.declared.Whole.{Whole}
+use Rattle.theory.specs.Table.{entry}
+use Rattle.theory.specs.Canon.{Maximum, Heads, Stars, sum}
+use Rattle.outcome.specs.declared.WholeAnswer.{WholeAnswer}
 
--- every column has a present order
-abbrev pub Occupied : (n : ℕ) → (ℕ → ℕ → ℤ) → Type 0
-Occupied n a = (j : ℕ) → j < n → (i : ℕ) × (i < n) × Present (a i j)
-
--- a canon with the marks of a complete transversal of its column maxima, in a table that was tested
-pub record Settled (t : List ℤ) (n : ℕ) (additions row-of column-of : List ℕ) : Type 0 where
-  pub square : Square t n
-  pub roomy : Roomy n additions
-  pub of-maxima : OfMaxima n (entry t n) (nums additions) (nums column-of)
-  pub marks : Marks n (nums row-of) (nums column-of)
+-- the row that is marked in each column holds the column's maximum
+pub record RowsHold (t : List ℤ) (n : ℕ) (l row-of : List ℕ) : Type 0 where
+  pub inside : (j : ℕ) → j < n → nums row-of j < n
+  pub maximum : (j : ℕ) → j < n → Maximum n (entry t n) (nums l) (nums row-of j) j
 
 -- r has these additions, with the first stars (columns from 1), the heads and the sum that belong to them
-pub record WholeOf (t : List ℤ) (n : ℕ) (additions : List ℕ) (r : Whole) : Type 0 where
+pub record WholeAnswerOf (t : List ℤ) (n : ℕ) (additions : List ℕ) (r : WholeAnswer) : Type 0 where
   pub same : r .additions ≡ additions
   pub stars : Stars n (entry t n) (nums additions) (columns (r .stars))
   pub from-one : (i : ℕ) → i < n → 1 ≤ nums (r .stars) i
@@ -30,13 +23,13 @@ pub record WholeOf (t : List ℤ) (n : ℕ) (additions : List ℕ) (r : Whole) :
   pub is-sum : r .sum ≡ sum n (entry t n) (columns (r .stars))
 
 -- the first elements of the fixed arrays fill the lent slices, as many as each has
-pub record HandedOut (w : Whole) (adds stars : List ℕ) (heads : List ℤ) (adds′ stars′ : List ℕ) (heads′ : List ℤ) : Type 0 where
+pub record HandedOut (w : WholeAnswer) (adds stars : List ℕ) (heads : List ℤ) (adds′ stars′ : List ℕ) (heads′ : List ℤ) : Type 0 where
   pub adds-are : adds′ ≡ take (length adds) (w .additions)
   pub stars-are : stars′ ≡ take (length stars) (w .stars)
   pub heads-are : heads′ ≡ take (length heads) (w .heads)
 
 -- slices with a place for each of the n rows
-pub record Lent (n : ℕ) (adds stars : List ℕ) (heads : List ℤ) : Type 0 where
+pub record Slices (n : ℕ) (adds stars : List ℕ) (heads : List ℤ) : Type 0 where
   pub adds-long : length adds ≡ n
   pub stars-long : length stars ≡ n
   pub heads-long : length heads ≡ n

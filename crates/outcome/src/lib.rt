@@ -7,24 +7,26 @@ ghost use Rattle.theory.specs.Limits.{rows};
 ghost use Rattle.theory.specs.Lists.{nums, ints};
 ghost use Rattle.theory.specs.Table.{entry};
 ghost use Rattle.theory.specs.Canon.{Heads, sum};
-ghost use Rattle.orders.specs.Places.{room, Square, Roomy};
-ghost use Rattle.outcome.specs.Completion.{Occupied, Settled, Lent, WholeOf, HandedOut, Delivered};
+ghost use Rattle.orders.specs.Places.{ceiling, Square, UnderCeiling, Marks};
+ghost use Rattle.orders.specs.Held.{CanonBy};
+ghost use Rattle.outcome.specs.Completion.{RowsHold, WholeAnswerOf, HandedOut, Slices, Delivered};
 use orders::ROWS;
-use orders::head;
 use orders::place;
+use orders::raise;
 use stars::first_stars;
 
-// The heads of all columns. Rules out a head that is not the largest raised order of its column.
-fn heads_of(table: &[i16], n: usize, additions: &[u32; ROWS]) -> [i32; ROWS]
-    requires { ⌜ Square (now table) n × Roomy n (now additions) × Occupied n (entry (now table) n) ⌝ }
+// The heads of all columns, read off the marks: the row marked in a column holds its maximum. Rules out a head that is not the largest
+// raised order of its column.
+fn heads_of(table: &[i16], n: usize, additions: &[u32; ROWS], rows: &[usize; ROWS]) -> [i32; ROWS]
+    requires { ⌜ Square (now table) n × UnderCeiling n (now additions) × RowsHold (now table) n (now additions) (now rows) ⌝ }
     ensures { λ r. ⌜ Heads n (entry (now (table .entry)) n) (nums (now (additions .entry))) (ints r) ⌝ }
 {
     let mut heads = [0i32; ROWS];
     let mut j = 0;
     while j < n {
-        let top = head(table, n, additions, j);
-        let value = top.head;
-        heads[j] = value;
+        let i = rows[j];
+        let order = place(table, n, i, j);
+        heads[j] = raise(order, additions[i]);
         j += 1;
     }
     heads
@@ -32,7 +34,7 @@ fn heads_of(table: &[i16], n: usize, additions: &[u32; ROWS]) -> [i32; ROWS]
 
 // A sum with one more order. Rules out every other number.
 fn plus(sum: i32, order: i16) -> i32
-    requires { ⌜ mag sum ≤ room ⌝ }
+    requires { ⌜ mag sum ≤ ceiling ⌝ }
     ensures { λ r. ⌜ r ≡ sum +ℤ order ⌝ }
 {
     sum + order as i32
@@ -93,7 +95,7 @@ fn copy_heads(from: [i32; ROWS], to: &mut [i32])
 }
 
 // The whole answer, held by value until it is copied out.
-pub struct Whole {
+pub struct WholeAnswer {
     pub additions: [u32; ROWS],
     pub stars: [u32; ROWS],
     pub heads: [i32; ROWS],
@@ -108,15 +110,15 @@ pub fn completed(
     additions: [u32; ROWS],
     rows: [usize; ROWS],
     columns: [usize; ROWS],
-) -> Whole
-    requires { ⌜ Settled (now table) n additions rows columns ⌝ }
-    ensures { λ r. ⌜ WholeOf (now (table .entry)) n additions r ⌝ }
+) -> WholeAnswer
+    requires { ⌜ Square (now table) n × CanonBy (now table) n additions columns × Marks n (nums rows) (nums columns) ⌝ }
+    ensures { λ r. ⌜ WholeAnswerOf (now (table .entry)) n additions r ⌝ }
 {
-    let heads = heads_of(table, n, &additions);
+    let heads = heads_of(table, n, &additions, &rows);
     let first = first_stars(n, table, &additions, &heads, rows, columns);
     let sum = sum_of(table, n, &first);
     let stars = numbered(n, &first);
-    Whole {
+    WholeAnswer {
         additions,
         stars,
         heads,
@@ -126,9 +128,16 @@ pub fn completed(
 
 // The whole answer copied out into the lent slices, which have a place for each row. Rules out a list copied into another's
 // slice.
-pub fn hand_out(answer: Whole, adds: &mut [u32], stars: &mut [u32], heads: &mut [i32])
+pub fn hand_out(answer: WholeAnswer, adds: &mut [u32], stars: &mut [u32], heads: &mut [i32])
     requires { ⌜ (length (now adds) ≤ rows) × (length (now stars) ≤ rows) × (length (now heads) ≤ rows) ⌝ }
-    ensures { λ _. ⌜ HandedOut answer (now (adds .entry)) (now (stars .entry)) (now (heads .entry)) (now (adds .exit)) (now (stars .exit)) (now (heads .exit)) ⌝ }
+    ensures { λ _. ⌜ HandedOut
+        answer
+        (now (adds .entry))
+        (now (stars .entry))
+        (now (heads .entry))
+        (now (adds .exit))
+        (now (stars .exit))
+        (now (heads .exit)) ⌝ }
 {
     let a = answer.additions;
     let s = answer.stars;
@@ -150,7 +159,10 @@ pub fn delivered(
     stars: &mut [u32],
     heads: &mut [i32],
 ) -> i32
-    requires { ⌜ Settled (now table) n additions rows columns × Lent n (now adds) (now stars) (now heads) ⌝ }
+    requires { ⌜ Square (now table) n
+        × CanonBy (now table) n additions columns
+        × Marks n (nums rows) (nums columns)
+        × Slices n (now adds) (now stars) (now heads) ⌝ }
     ensures { λ r. ⌜ Delivered (now (table .entry)) n additions r (now (adds .exit)) (now (stars .exit)) (now (heads .exit)) ⌝ }
 {
     let answer = completed(n, table, additions, rows, columns);

@@ -7,15 +7,15 @@ use Rattle.theory.specs.Table.{Present, WithinLimit}
 use Rattle.theory.specs.Canon.{Head}
 use Rattle.theory.proofs.Signed.{plus, signed}
 use Rattle.theory.proofs.Duality.{under-head}
-use Rattle.orders.specs.Places.{room}
+use Rattle.orders.specs.Places.{ceiling}
 
 module _ (n : ℕ) (a : ℕ → ℕ → ℤ) (l : ℕ → ℕ) (j : ℕ) where
-  -- an order of the column does not pass the head, raised or not, and the head leaves the room
+  -- an order of the column does not pass the head, raised or not, and the head is no higher than twice the ceiling
   pub head-above : {h : ℤ} {i : ℕ} → Head n a l j h → i < n → Present (a i j) → a i j ≤ℤ h
   head-above {h} {i} t hi p = omega (arith, signed, under-head n a t i hi p, plus (a i j) (pos (l i)))
 
-  pub head-roomy : {limit : ℕ} {h : ℤ} → limit ≤ room → j < n → WithinLimit limit n a → ((i : ℕ) → i < n → l i ≤ room) → Head n a l j h → h ≤ℤ pos (2 * room)
-  head-roomy small hj w le t =
+  pub head-under : {limit : ℕ} {h : ℤ} → limit ≤ ceiling → j < n → WithinLimit limit n a → ((i : ℕ) → i < n → l i ≤ ceiling) → Head n a l j h → h ≤ℤ pos (2 * ceiling)
+  head-under small hj w le t =
       omega (
         arith,
         signed,

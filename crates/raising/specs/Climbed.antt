@@ -8,14 +8,12 @@ use Prim.Native.Nat.{ℕ}
 use lib.IntN.{ℤ}
 use Rattle.theory.specs.Lists.{nums}
 use Rattle.theory.specs.Table.{entry}
-use Rattle.theory.specs.Canon.{OfMaxima, Simplest, Greatest}
-use Rattle.orders.specs.Places.{Roomy}
+use Rattle.theory.specs.Canon.{LeastFrom, Greatest}
+use Rattle.orders.specs.Held.{LeastBy}
 use Rattle.raising.specs.declared.Raising.{Raising}
 
--- what the rounds come to. Ended: the simplest canon, and under it the stars given are column maxima. Not ended: the stars given
--- have not the greatest sum, if there is a simplest canon at all.
-pub record Climbed (t : List ℤ) (n : ℕ) (column-of : List ℕ) (r : Raising) : Type 0 where
-  pub simplest : r .ended ≡ true → Simplest n (entry t n) (nums (r .additions))
-  pub maxima : r .ended ≡ true → OfMaxima n (entry t n) (nums (r .additions)) (nums column-of)
-  pub roomy : r .ended ≡ true → Roomy n (r .additions)
-  pub exceeded : r .ended ≡ false → (l : ℕ → ℕ) → Simplest n (entry t n) l → Greatest n (entry t n) (nums column-of) → ⊥
+-- what the rounds from a start come to. Ended: the least canon from the start, and under it the stars given are column maxima. Not
+-- ended: the stars given have not the greatest sum, if there is a least canon from the start at all.
+pub record Climbed (t : List ℤ) (n : ℕ) (start column-of : List ℕ) (r : Raising) : Type 0 where
+  pub least : r .ended ≡ true → LeastBy t n (nums start) (r .additions) column-of
+  pub exceeded : r .ended ≡ false → (l : ℕ → ℕ) → LeastFrom n (entry t n) (nums start) l → Greatest n (entry t n) (nums column-of) → ⊥

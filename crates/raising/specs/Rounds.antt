@@ -1,5 +1,4 @@
--- What the calls within this crate promise each other: the larger of two heights, and one round. The starred order of row i is in
--- column σ i.
+-- What the calls within this crate promise each other. The starred order of row i is in column σ i.
 use mathlib.Core.Path.{_≡_}
 use mathlib.Core.Bool.{Bool, true, false}
 use mathlib.Core.List.{List}
@@ -7,9 +6,10 @@ use Prim.Native.Nat.{ℕ, _+_, _*_, _≤_, _<_}
 use lib.IntN.{ℤ}
 use lib.Signed.{_≤ℤ_}
 use Rattle.theory.specs.Lists.{nums}
-use Rattle.theory.specs.Table.{Present}
-use Rattle.theory.specs.Canon.{raised, OfMaxima, AtMost}
-use Rattle.orders.specs.Places.{room}
+use Rattle.theory.specs.Table.{Present, entry, Entries}
+use Rattle.theory.specs.Canon.{raised, OfMaxima, AtMost, Transversal}
+use Rattle.theory.specs.Limits.{order}
+use Rattle.orders.specs.Places.{ceiling, Square, UnderCeiling}
 
 -- the first k rows of a round from the additions l, of a table a whose orders are within the limit: rows are raised and never
 -- lowered; each of the k is raised to what the others had in its column before the round; no row passes a canon's addition; k rows
@@ -22,6 +22,22 @@ pub record Round (limit n : ℕ) (a : ℕ → ℕ → ℤ) (σ l : ℕ → ℕ) 
   pub still : ended ≡ true → (i : ℕ) → i < n → next i ≡ l i
   pub moved : ended ≡ false → (i : ℕ) × (i < n) × (l i < next i)
 
--- one round from the additions l leaves the room
+-- one round from the additions l stays under the ceiling
 abbrev pub Ample : ℕ → ℕ → List ℕ → Type 0
-Ample limit n l = (i : ℕ) → i < n → nums l i + n * (2 * limit) ≤ room
+Ample limit n l = (i : ℕ) → i < n → nums l i + n * (2 * limit) ≤ ceiling
+
+-- what a row's wanted addition is reckoned from: a tested table, additions under the ceiling, and a present place
+pub record Wanting (t : List ℤ) (n : ℕ) (l : List ℕ) (column i : ℕ) : Type 0 where
+  pub square : Square t n
+  pub entries : Entries order t
+  pub under-ceiling : UnderCeiling n l
+  pub inside : column < n
+  pub row : i < n
+  pub present : Present (entry t n i column)
+
+-- what a round begins with: a tested table, a transversal, and additions that leave a round under the ceiling
+pub record Rounding (t : List ℤ) (n : ℕ) (column-of l : List ℕ) : Type 0 where
+  pub square : Square t n
+  pub entries : Entries order t
+  pub transversal : Transversal n (entry t n) (nums column-of)
+  pub ample : Ample order n l

@@ -9,14 +9,14 @@ use lib.ListN.{length, replicate}
 use Rattle.theory.specs.Limits.{rows}
 use Rattle.theory.specs.Lists.{nums}
 use Rattle.theory.specs.Table.{entry}
-use Rattle.theory.specs.Canon.{Transversal, Canon, Simplest}
+use Rattle.theory.specs.Canon.{SomeTransversal, NoTransversal, Canon, Simplest}
 use Rattle.theory.proofs.Unique.{canon-same, least-same, least-once}
 use Rattle.orders.specs.Tested.{Tells}
+use Rattle.orders.specs.Places.{Marks}
+use Rattle.orders.specs.Held.{Startable, LeastBy}
 use Rattle.orders.proofs.Entries.{clash}
-use Rattle.orders.proofs.Zeros.{zero-start, zero-simplest}
-use Rattle.growth.specs.Grown.{Startable, Whole}
-use Rattle.growth.specs.declared.Grown.{Grown}
-use Rattle.lowering.specs.Descent.{CanonGiven, LoweredTo}
+use Rattle.orders.proofs.Zeros.{zero-start, zero-least}
+use Rattle.lowering.specs.Descent.{CanonGiven}
 use Rattle.routes.specs.Routes.{GivenAdditions, ReducedFrom}
 
 module _ {t : List ℤ} {n : ℕ} {given : List ℕ} (g : GivenAdditions t n given) (start : List ℕ)
@@ -28,7 +28,7 @@ module _ {t : List ℤ} {n : ℕ} {given : List ℕ} (g : GivenAdditions t n giv
   startable = record { square = g .square; entries = g .entries; handed-in = λ i hi. rw (agrees i hi) (g .limited i hi) }
 
   -- no complete transversal
-  pub reduced-none : {l rows columns : List ℕ} → ((σ : ℕ → ℕ) → Transversal n (entry t n) σ → ⊥)
+  pub reduced-none : {l rows columns : List ℕ} → NoTransversal n (entry t n)
       → ReducedFrom t n given (record { found = false; canon = false; unchanged = false; additions = l; rows = rows; columns = columns })
   reduced-none no-one =
       record {
@@ -37,20 +37,21 @@ module _ {t : List ℤ} {n : ℕ} {given : List ℕ} (g : GivenAdditions t n giv
         no-canon = λ e. clash e refl;
         is-canon = λ e. clash e refl;
         least = λ e. clash e refl;
+        marks = λ e. clash e refl;
         judged = λ e. clash e refl;
       }
 
-  module _ {r : Grown} (w : Whole t n start r) where
-    transversal : (σ : ℕ → ℕ) × Transversal n (entry t n) σ
-    transversal = (nums (r .columns), w .of-maxima .transversal)
+  module _ {l columns : List ℕ} (w : LeastBy t n (nums start) l columns) where
+    transversal : SomeTransversal n (entry t n)
+    transversal = (nums columns, w .canon .of-maxima .transversal)
 
     -- a canon is the least from itself, so growing changes nothing in it
-    unmoved : Canon n (entry t n) (nums given) → (i : ℕ) → i < n → nums (r .additions) i ≡ nums start i
+    unmoved : Canon n (entry t n) (nums given) → (i : ℕ) → i < n → nums l i ≡ nums start i
     unmoved c i hi =
         omega (arith, w .least .from-start i hi, w .least .least (nums start) (canon-same n (entry t n) (λ i hi. sym (agrees i hi)) c) (λ i hi. omega arith) i hi)
 
-    pub reduced-moved : {l rows columns : List ℕ} → (((i : ℕ) → i < n → nums (r .additions) i ≡ nums start i) → ⊥)
-        → ReducedFrom t n given (record { found = true; canon = false; unchanged = false; additions = l; rows = rows; columns = columns })
+    pub reduced-moved : {l′ rows columns′ : List ℕ} → (((i : ℕ) → i < n → nums l i ≡ nums start i) → ⊥)
+        → ReducedFrom t n given (record { found = true; canon = false; unchanged = false; additions = l′; rows = rows; columns = columns′ })
     reduced-moved moved =
         record {
           none = λ e. clash refl e;
@@ -58,29 +59,26 @@ module _ {t : List ℤ} {n : ℕ} {given : List ℕ} (g : GivenAdditions t n giv
           no-canon = λ e f c. moved (unmoved c);
           is-canon = λ e. clash e refl;
           least = λ e. clash e refl;
+          marks = λ e. clash e refl;
           judged = λ e. clash e refl;
         }
 
-    pub canon-given : CanonGiven t n (r .columns) (r .additions) (replicate rows 0)
-    canon-given = record { square = g .square; of-maxima = w .of-maxima; not-below = λ i hi. zero-start _ i; roomy = w .roomy }
+    pub canon-given : CanonGiven t n columns l (replicate rows 0)
+    canon-given = record { square = g .square; canon-by = w .canon; not-below = λ i hi. zero-start _ i }
 
     -- the least canon, and whether it is what was handed in
-    pub reduced-canon : (least : List ℕ) (unchanged : Bool) → ((i : ℕ) → i < n → nums (r .additions) i ≡ nums start i)
-        → LoweredTo t n (r .columns) (r .additions) (replicate rows 0) least
+    pub reduced-canon : (least row-of : List ℕ) (unchanged : Bool) → ((i : ℕ) → i < n → nums l i ≡ nums start i)
+        → Marks n (nums row-of) (nums columns) → LeastBy t n (nums (replicate rows 0)) least columns
         → Tells unchanged ((i : ℕ) → i < n → nums least i ≡ nums start i)
-        → ReducedFrom t n given (record { found = true; canon = true; unchanged = unchanged; additions = least; rows = r .rows; columns = r .columns })
-    reduced-canon least unchanged same low told =
+        → ReducedFrom t n given (record { found = true; canon = true; unchanged = unchanged; additions = least; rows = row-of; columns = columns })
+    reduced-canon least row-of unchanged same marks low told =
         record {
           none = λ e. clash refl e;
           exists = λ e. transversal;
           no-canon = λ e f. clash refl f;
           is-canon = λ e. canon-same n (entry t n) (λ i hi. same i hi ∙ agrees i hi) (w .least .canon);
-          least = λ e. record {
-            simplest = simplest;
-            of-maxima = low .of-maxima;
-            marks = w .marks;
-            roomy = λ i hi. omega (arith, low .not-above i hi, w .roomy i hi);
-          };
+          least = λ e. zero-least low;
+          marks = λ e. marks;
           judged = λ e. record {
             holds = λ b. least-same n (entry t n) (λ i hi. told .holds b i hi ∙ agrees i hi) simplest;
             fails = λ b s. told .fails b (λ i hi. least-once n (entry t n) simplest s i hi ∙ sym (agrees i hi));
@@ -88,4 +86,4 @@ module _ {t : List ℤ} {n : ℕ} {given : List ℕ} (g : GivenAdditions t n giv
         }
       where
         simplest : Simplest n (entry t n) (nums least)
-        simplest = zero-simplest (low .least-from)
+        simplest = zero-least low .least

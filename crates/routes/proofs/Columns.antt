@@ -11,13 +11,14 @@ use lib.Signed.{ltZ}
 use Rattle.theory.specs.Limits.{rows}
 use Rattle.theory.specs.Lists.{nums}
 use Rattle.theory.specs.Table.{absent, Present, entry}
-use Rattle.theory.specs.Canon.{Transversal, Simplest, Greatest, Misplaced, on-absent, exceeded, sum}
+use Rattle.theory.specs.Canon.{Transversal, LeastFrom, Greatest, Misplaced, on-absent, exceeded, sum}
 use Rattle.theory.proofs.Pigeonhole.{exists}
 use Rattle.theory.proofs.Signed.{signed}
 use Rattle.theory.proofs.Duality.{maxima-greatest}
+use Rattle.orders.specs.Held.{Startable}
 use Rattle.orders.proofs.Entries.{clash}
-use Rattle.orders.proofs.Zeros.{zero-start, zero-simplest}
-use Rattle.growth.specs.Grown.{Startable, GrownFrom}
+use Rattle.orders.proofs.Zeros.{zero-start, zero-least}
+use Rattle.growth.specs.Grown.{GrownFrom}
 use Rattle.growth.specs.declared.Grown.{Grown}
 use Rattle.raising.specs.Climbed.{Climbed}
 use Rattle.raising.specs.declared.Raising.{Raising}
@@ -53,37 +54,36 @@ module _ {t : List ℤ} {n : ℕ} {column-of : List ℕ} (g : GivenColumns t n c
   transversal-of p = record { inside = g .inside; present = p; apart = g .apart }
 
   -- the rounds ended
-  pub raised-ended : {r : Raising} → Climbed t n column-of r → r .ended ≡ true
+  pub raised-ended : {r : Raising} → Climbed t n (replicate rows 0) column-of r → r .ended ≡ true
       → RaisedFrom t n column-of (record { found = true; greatest = true; additions = r .additions })
   raised-ended {r} c e =
+      let of-maxima = c .least e .canon .of-maxima in
       record {
         none = λ f. clash refl f;
-        exists = λ f. (nums column-of, c .maxima e .transversal);
+        exists = λ f. (nums column-of, of-maxima .transversal);
         misplaced = λ f h. clash refl h;
-        placed = λ h. well-placed n (entry t n) (maxima-greatest n (entry t n) (c .maxima e));
-        simplest = λ h. c .simplest e;
-        of-maxima = λ h. c .maxima e;
-        roomy = λ h. c .roomy e;
+        placed = λ h. well-placed n (entry t n) (maxima-greatest n (entry t n) of-maxima);
+        least = λ h. zero-least (c .least e);
       }
 
   -- they did not, or a place is absent: growth from zeros tells whether there is a transversal at all
   pub raised-failed : {w : Grown} (l : List ℕ) → GrownFrom t n (replicate rows 0) w
-      → (Simplest n (entry t n) (nums (w .additions)) → Greatest n (entry t n) (nums (w .columns)) → Misplaced n (entry t n) (nums column-of))
+      → ((m τ : ℕ → ℕ) → LeastFrom n (entry t n) (nums (replicate rows 0)) m → Greatest n (entry t n) τ → Misplaced n (entry t n) (nums column-of))
       → RaisedFrom t n column-of (record { found = w .found; greatest = false; additions = l })
   raised-failed {w} l grown wrong =
       record {
         none = grown .none;
-        exists = λ f. (nums (w .columns), grown .found f .of-maxima .transversal);
-        misplaced = λ f h. let p = grown .found f in wrong (zero-simplest (p .least)) (maxima-greatest n (entry t n) (p .of-maxima));
+        exists = λ f. (nums (w .columns), grown .found f .canon .of-maxima .transversal);
+        misplaced = λ f h.
+            let p = grown .found f in
+            wrong _ _ (p .least) (maxima-greatest n (entry t n) (p .canon .of-maxima));
         placed = λ h. clash h refl;
-        simplest = λ h. clash h refl;
-        of-maxima = λ h. clash h refl;
-        roomy = λ h. clash h refl;
+        least = λ h. clash h refl;
       }
 
-  pub endless : {r : Raising} {l τ : ℕ → ℕ} → Climbed t n column-of r → r .ended ≡ false → Transversal n (entry t n) (nums column-of)
-      → Simplest n (entry t n) l → Greatest n (entry t n) τ → Misplaced n (entry t n) (nums column-of)
-  endless c e tr s gr = not-greatest n (entry t n) tr gr (c .exceeded e _ s)
+  pub endless : {r : Raising} → Climbed t n (replicate rows 0) column-of r → r .ended ≡ false → Transversal n (entry t n) (nums column-of)
+      → (m τ : ℕ → ℕ) → LeastFrom n (entry t n) (nums (replicate rows 0)) m → Greatest n (entry t n) τ → Misplaced n (entry t n) (nums column-of)
+  endless c e tr m τ s gr = not-greatest n (entry t n) tr gr (c .exceeded e m s)
 
   pub absent-place : (((i : ℕ) → i < n → Present (entry t n i (nums column-of i))) → ⊥) → Misplaced n (entry t n) (nums column-of)
   absent-place f = some-absent n (entry t n) (nums column-of) f

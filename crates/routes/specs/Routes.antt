@@ -8,8 +8,9 @@ use lib.ListN.{length}
 use Rattle.theory.specs.Limits.{order, handed}
 use Rattle.theory.specs.Lists.{nums}
 use Rattle.theory.specs.Table.{entry, Entries}
-use Rattle.theory.specs.Canon.{Transversal, OfMaxima, Canon, Simplest, Misplaced}
-use Rattle.orders.specs.Places.{Square, Roomy, Marks}
+use Rattle.theory.specs.Canon.{SomeTransversal, NoTransversal, Canon, Simplest, Misplaced}
+use Rattle.orders.specs.Places.{Square, Marks}
+use Rattle.orders.specs.Held.{LeastBy}
 use Rattle.orders.specs.Tested.{Tells}
 use Rattle.routes.specs.declared.Reduced.{Reduced}
 use Rattle.routes.specs.declared.Raised.{Raised}
@@ -21,20 +22,14 @@ pub record GivenAdditions (t : List ℤ) (n : ℕ) (given : List ℕ) : Type 0 w
   pub long : length given ≡ n
   pub limited : (i : ℕ) → i < n → nums given i ≤ handed
 
--- the simplest canon with the marks of a complete transversal of its column maxima
-pub record Least (t : List ℤ) (n : ℕ) (additions row-of column-of : List ℕ) : Type 0 where
-  pub simplest : Simplest n (entry t n) (nums additions)
-  pub of-maxima : OfMaxima n (entry t n) (nums additions) (nums column-of)
-  pub marks : Marks n (nums row-of) (nums column-of)
-  pub roomy : Roomy n additions
-
 -- what is known of additions handed in
 pub record ReducedFrom (t : List ℤ) (n : ℕ) (given : List ℕ) (r : Reduced) : Type 0 where
-  pub none : r .found ≡ false → (σ : ℕ → ℕ) → Transversal n (entry t n) σ → ⊥
-  pub exists : r .found ≡ true → (σ : ℕ → ℕ) × Transversal n (entry t n) σ
+  pub none : r .found ≡ false → NoTransversal n (entry t n)
+  pub exists : r .found ≡ true → SomeTransversal n (entry t n)
   pub no-canon : r .found ≡ true → r .canon ≡ false → Canon n (entry t n) (nums given) → ⊥
   pub is-canon : r .canon ≡ true → Canon n (entry t n) (nums given)
-  pub least : r .canon ≡ true → Least t n (r .additions) (r .rows) (r .columns)
+  pub least : r .canon ≡ true → LeastBy t n (λ i. 0) (r .additions) (r .columns)
+  pub marks : r .canon ≡ true → Marks n (nums (r .rows)) (nums (r .columns))
   pub judged : r .canon ≡ true → Tells (r .unchanged) (Simplest n (entry t n) (nums given))
 
 -- a table that was tested, and columns inside it, no two the same
@@ -46,10 +41,8 @@ pub record GivenColumns (t : List ℤ) (n : ℕ) (column-of : List ℕ) : Type 0
 
 -- what is known of a transversal handed in
 pub record RaisedFrom (t : List ℤ) (n : ℕ) (column-of : List ℕ) (r : Raised) : Type 0 where
-  pub none : r .found ≡ false → (σ : ℕ → ℕ) → Transversal n (entry t n) σ → ⊥
-  pub exists : r .found ≡ true → (σ : ℕ → ℕ) × Transversal n (entry t n) σ
+  pub none : r .found ≡ false → NoTransversal n (entry t n)
+  pub exists : r .found ≡ true → SomeTransversal n (entry t n)
   pub misplaced : r .found ≡ true → r .greatest ≡ false → Misplaced n (entry t n) (nums column-of)
   pub placed : r .greatest ≡ true → Misplaced n (entry t n) (nums column-of) → ⊥
-  pub simplest : r .greatest ≡ true → Simplest n (entry t n) (nums (r .additions))
-  pub of-maxima : r .greatest ≡ true → OfMaxima n (entry t n) (nums (r .additions)) (nums column-of)
-  pub roomy : r .greatest ≡ true → Roomy n (r .additions)
+  pub least : r .greatest ≡ true → LeastBy t n (λ i. 0) (r .additions) column-of

@@ -76,7 +76,7 @@ pub fn from_columns(n: usize, table: &[i16], columns: &[usize; ROWS]) -> Raised
     ensures { λ r. ⌜ RaisedFrom (now (table .entry)) n (now (columns .entry)) r ⌝ }
 {
     if all_present(table, n, columns) {
-        let climbed = climb(n, table, columns);
+        let climbed = climb(n, table, columns, [0u32; ROWS]);
         let additions = climbed.additions;
         if climbed.ended {
             return Raised {

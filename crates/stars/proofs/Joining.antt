@@ -1,28 +1,16 @@
 -- The rows found by the search: the first of them, and one more. Assumes nothing.
 use mathlib.Core.Path.{_≡_, refl, sym, _∙_, ap}
 use mathlib.Core.Logic.{_≢_}
-use mathlib.Core.List.{List}
 use Prim.Native.Nat.{ℕ, _+_, _-_, _≤_, _<_}
 use native.Mathlib.Decide.{ℕ-discrete, decLe, decLt}
 use native.Mathlib.Omega.{arith}
 use lib.IntN.{ℤ}
-use lib.ListN.{length, set}
-use lib.Seq.{getD-set-same, getD-set-other}
-use Rattle.theory.specs.Lists.{nums}
 use Rattle.theory.specs.Canon.{Maximum}
 use Rattle.theory.proofs.Pigeonhole.{onto, crowded}
-use Rattle.stars.specs.Search.{Found, Grown, ScannedTo}
+use Rattle.stars.specs.Search.{RowsFound, MoreFound, ScannedTo}
+use Rattle.orders.proofs.Stores.{Put}
 
--- f′ is f with v at k
-pub record Put (f f′ : ℕ → ℕ) (k v : ℕ) : Type 0 where
-  pub here : f′ k ≡ v
-  pub other : (x : ℕ) → x ≢ k → f′ x ≡ f x
-
--- a store in an array
-pub put : (l : List ℕ) (k v : ℕ) → k < length l → Put (nums l) (nums (set l k v)) k v
-put l k v h = record { here = getD-set-same l k v 0 h; other = λ x ne. getD-set-other l k x v 0 ne }
-
-module _ {n : ℕ} {a : ℕ → ℕ → ℤ} {l : ℕ → ℕ} {i : ℕ} {σ next step queue : ℕ → ℕ} {count : ℕ} (w : Found n a l i σ next step queue count) where
+module _ {n : ℕ} {a : ℕ → ℕ → ℤ} {l : ℕ → ℕ} {i : ℕ} {σ next step queue : ℕ → ℕ} {count : ℕ} (w : RowsFound n a l i σ next step queue count) where
   -- no row stands in the queue twice, since its step tells its place
   queue-apart : (p q : ℕ) → p < count → q < count → queue p ≡ queue q → p ≡ q
   queue-apart p q hp hq e = omega (arith, w .numbered p hp, w .numbered q hq, ap step e)
@@ -63,18 +51,18 @@ module _ {n : ℕ} {a : ℕ → ℕ → ℤ} {l : ℕ → ℕ} {i : ℕ} {σ nex
     not-k x h e = omega (arith, ap step e)
 
     kept : (x : ℕ) → 0 < step x → step′ x ≡ step x
-    kept x h = ps .other x (not-k x h)
+    kept x h = ps .off x (not-k x h)
 
     was : (x : ℕ) → x ≢ k → 0 < step′ x → 0 < step x
-    was x ne h = omega (arith, ps .other x ne)
+    was x ne h = omega (arith, ps .off x ne)
 
     before : (p : ℕ) → p < count → queue′ p ≡ queue p
-    before p h = pq .other p (omega arith)
+    before p h = pq .off p (omega arith)
 
     -- what holds of place `count` of the queue and of those before it
     place : (P : ℕ → ℕ → Type 0) → P count k → ((p : ℕ) → p < count → P p (queue p)) → (p : ℕ) → p < count + 1 → P p (queue′ p)
     place P new old p h = elim (ℕ-discrete p count) [
-      | yes e ↦ rw (e, pq .here) new
+      | yes e ↦ rw (e, pq .at) new
       | no ne ↦ rw (before p (omega arith)) (old p (omega arith))
     ]
 
@@ -82,25 +70,25 @@ module _ {n : ℕ} {a : ℕ → ℕ → ℤ} {l : ℕ → ℕ} {i : ℕ} {σ nex
     each : (P : ℕ → ℕ → ℕ → Type 0) → P k (count + 1) m → ((x : ℕ) → x < n → 0 < step x → x ≢ i → P x (step x) (next x))
         → (x : ℕ) → x < n → 0 < step′ x → x ≢ i → P x (step′ x) (next′ x)
     each P new old x hx h ni = elim (ℕ-discrete x k) [
-      | yes e ↦ rw (e, ps .here, pn .here) new
-      | no ne ↦ rw (ps .other x ne, pn .other x ne) (old x hx (was x ne h) ni)
+      | yes e ↦ rw (e, ps .at, pn .at) new
+      | no ne ↦ rw (ps .off x ne, pn .off x ne) (old x hx (was x ne h) ni)
     ]
 
     -- One more row is found: row k, with a maximum in the column of row m, joins at the end of the queue. Rows found before keep their
     -- steps and their next rows, and m's step is below k's, which is the greatest.
-    pub found-more : Found n a l i σ next′ step′ queue′ (count + 1)
+    pub found-more : RowsFound n a l i σ next′ step′ queue′ (count + 1)
     found-more = record {
       root = kept i (omega (arith, w .root)) ∙ w .root;
       row = place (λ p x. x < n) hk (w .row);
       late = place (λ p x. i ≤ x) (omega arith) (w .late);
-      numbered = place (λ p x. step′ x ≡ p + 1) (ps .here) (λ p h. kept (queue p) (omega (arith, w .numbered p h)) ∙ w .numbered p h);
+      numbered = place (λ p x. step′ x ≡ p + 1) (ps .at) (λ p h. kept (queue p) (omega (arith, w .numbered p h)) ∙ w .numbered p h);
       counted = λ x hx h. elim (ℕ-discrete x k) [
-        | yes e ↦ rw (e, ps .here) (omega arith)
-        | no ne ↦ rw (ps .other x ne) (omega (arith, w .counted x hx (was x ne h)))
+        | yes e ↦ rw (e, ps .at) (omega arith)
+        | no ne ↦ rw (ps .off x ne) (omega (arith, w .counted x hx (was x ne h)))
       ];
       queued = λ x hx h. elim (ℕ-discrete x k) [
         | yes e ↦ last x e
-        | no ne ↦ rw (ps .other x ne) (
+        | no ne ↦ rw (ps .off x ne) (
             before (step x - 1) (omega (arith, w .counted x hx (was x ne h), was x ne h))
             ∙ w .queued x hx (was x ne h))
       ];
@@ -114,12 +102,12 @@ module _ {n : ℕ} {a : ℕ → ℕ → ℤ} {l : ℕ → ℕ} {i : ℕ} {σ nex
       where
         last : (x : ℕ) → x ≡ k → queue′ (step′ x - 1) ≡ x
         last x e =
-            let s : step′ x - 1 ≡ count = omega (arith, ap step′ e, ps .here) in
-            ap queue′ s ∙ pq .here ∙ sym e
+            let s : step′ x - 1 ≡ count = omega (arith, ap step′ e, ps .at) in
+            ap queue′ s ∙ pq .at ∙ sym e
 
     -- what was found stays as it was
-    pub grown-more : {step₀ queue₀ : ℕ → ℕ} {count₀ : ℕ} → Grown n step₀ queue₀ count₀ step queue count → Grown n step₀ queue₀ count₀ step′ queue′ (count + 1)
-    grown-more g = record {
+    pub more-found : {step₀ queue₀ : ℕ → ℕ} {count₀ : ℕ} → MoreFound n step₀ queue₀ count₀ step queue count → MoreFound n step₀ queue₀ count₀ step′ queue′ (count + 1)
+    more-found g = record {
       more = omega (arith, g .more);
       same = λ p h. before p (omega (arith, g .more)) ∙ g .same p h;
       kept = λ x hx h. rw (kept x (g .kept x hx h)) (g .kept x hx h);
@@ -128,8 +116,8 @@ module _ {n : ℕ} {a : ℕ → ℕ → ℤ} {l : ℕ → ℕ} {i : ℕ} {σ nex
     -- and row k is found now
     pub scanned-found : {column : ℕ} → ScannedTo n a l i column step k → ScannedTo n a l i column step′ (k + 1)
     scanned-found s x h b t = elim (ℕ-discrete x k) [
-      | yes e ↦ rw (e, ps .here) (omega arith)
-      | no ne ↦ rw (ps .other x ne) (s x h (omega arith) t)
+      | yes e ↦ rw (e, ps .at) (omega arith)
+      | no ne ↦ rw (ps .off x ne) (s x h (omega arith) t)
     ]
 
 -- the next row of a scan, where it is found already or has no maximum in the column
@@ -140,19 +128,19 @@ scanned-next n a l i column step k s new x h b t = elim (ℕ-discrete x k) [
   | no ne ↦ s x h (omega arith) t
 ]
 
-pub grown-none : (n : ℕ) (step queue : ℕ → ℕ) (count : ℕ) → Grown n step queue count step queue count
-grown-none n step queue count = record { more = omega arith; same = λ p h. refl; kept = λ x hx h. h }
+pub more-none : (n : ℕ) (step queue : ℕ → ℕ) (count : ℕ) → MoreFound n step queue count step queue count
+more-none n step queue count = record { more = omega arith; same = λ p h. refl; kept = λ x hx h. h }
 
 -- row i is found first
 pub found-first : (n : ℕ) (a : ℕ → ℕ → ℤ) (l : ℕ → ℕ) (i : ℕ) (σ next step queue step₀ : ℕ → ℕ) → i < n
-    → ((x : ℕ) → x < n → step₀ x ≡ 0) → Put step₀ step i 1 → queue 0 ≡ i → Found n a l i σ next step queue 1
+    → ((x : ℕ) → x < n → step₀ x ≡ 0) → Put step₀ step i 1 → queue 0 ≡ i → RowsFound n a l i σ next step queue 1
 found-first n a l i σ next step queue step₀ hi zero ps first = record {
-  root = ps .here;
+  root = ps .at;
   row = λ p h. rw (at p h) hi;
   late = λ p h. rw (at p h) (omega arith);
-  numbered = λ p h. rw (at p h) (omega (arith, ps .here));
-  counted = λ x hx h. omega (arith, ap step (only x hx h), ps .here);
-  queued = λ x hx h. let s : step x - 1 ≡ 0 = omega (arith, ap step (only x hx h), ps .here) in ap queue s ∙ first ∙ sym (only x hx h);
+  numbered = λ p h. rw (at p h) (omega (arith, ps .at));
+  counted = λ x hx h. omega (arith, ap step (only x hx h), ps .at);
+  queued = λ x hx h. let s : step x - 1 ≡ 0 = omega (arith, ap step (only x hx h), ps .at) in ap queue s ∙ first ∙ sym (only x hx h);
   inside = λ x hx h ni. absurd (ni (only x hx h));
   maximum = λ x hx h ni. absurd (ni (only x hx h));
   found = λ x hx h ni. absurd (ni (only x hx h));
@@ -165,5 +153,5 @@ found-first n a l i σ next step queue step₀ hi zero ps first = record {
     only : (x : ℕ) → x < n → 0 < step x → x ≡ i
     only x hx h = elim (ℕ-discrete x i) [
       | yes e ↦ e
-      | no ne ↦ absurd (omega (arith, ps .other x ne, zero x hx))
+      | no ne ↦ absurd (omega (arith, ps .off x ne, zero x hx))
     ]

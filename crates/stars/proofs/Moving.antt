@@ -6,32 +6,33 @@ use Prim.Native.Nat.{ℕ, _≤_, _<_}
 use native.Mathlib.Decide.{decLt}
 use native.Mathlib.Omega.{arith}
 use lib.IntN.{ℤ}
-use lib.ListN.{length, replicate, getD-replicate}
+use lib.ListN.{replicate, getD-replicate}
 use Rattle.theory.specs.Limits.{rows}
 use Rattle.theory.specs.Lists.{nums}
 use Rattle.theory.specs.Table.{entry}
 use Rattle.theory.specs.Canon.{Maximum}
 use Rattle.theory.proofs.Exchange.{exchange}
-use Rattle.stars.specs.Search.{Least, Unsearched, Searched}
-use Rattle.stars.specs.Shift.{Marking, MarkedIn, Swapped, Settled, Later}
+use Rattle.stars.specs.Search.{LeastColumn, Unsearched, Searched}
+use Rattle.stars.specs.Shift.{MarkArrays, MaximaIn, Swapped, Starred, Later}
 use Rattle.stars.proofs.Joining.{root-found, root-alone}
 use Rattle.stars.proofs.Swapping.{swap-stores, swap-long-rows, swap-long-columns}
 use Rattle.stars.proofs.Shifting.{Shifting, of-marks, not-yet, shift-start, shift-less, shift-next, shift-maxima, shift-takes}
+use Rattle.orders.specs.Held.{Long}
 
 -- the shift of the marks w₀ along the ways has come to row k and the marks w
-pub record ShiftingIn (t : List ℤ) (n : ℕ) (l : List ℕ) (i j : ℕ) (w₀ : Marking) (step : List ℕ) (w : Marking) (k m : ℕ) : Type 0 where
-  pub long-rows : length (w .rows) ≡ rows
-  pub long-columns : length (w .columns) ≡ rows
+pub record ShiftingIn (t : List ℤ) (n : ℕ) (l : List ℕ) (i j : ℕ) (w₀ : MarkArrays) (step : List ℕ) (w : MarkArrays) (k m : ℕ) : Type 0 where
+  pub long-rows : Long (w .rows)
+  pub long-columns : Long (w .columns)
   pub shift : Shifting n (entry t n) (nums l) i j (nums (w₀ .columns)) (nums step) (nums (w .rows)) (nums (w .columns)) k m
 
--- ---- a row that has no maximum before its own column in the column of a later row is settled as it stands
-pub settled-so : {t : List ℤ} {n : ℕ} {l : List ℕ} {w : Marking} {i j : ℕ} {later : List ℕ} → MarkedIn t n l w → Later n i later → i < n
-    → Least n (entry t n) (nums l) (nums (w .rows)) (nums later) i (nums (w .columns) i) j → j ≡ nums (w .columns) i → Settled t n l w i w
-settled-so {t} {n} {l} {w} {i} {j} {later} marked late hi b own = record {
-  marked = marked;
+-- ---- a row that has no maximum before its own column in the column of a later row is starred as it stands
+pub starred-so : {t : List ℤ} {n : ℕ} {l : List ℕ} {w : MarkArrays} {i j : ℕ} {later : List ℕ} → MaximaIn t n l w → Later n i later → i < n
+    → LeastColumn n (entry t n) (nums l) (nums (w .rows)) (nums later) i (nums (w .columns) i) j → j ≡ nums (w .columns) i → Starred t n l w i w
+starred-so {t} {n} {l} {w} {i} {j} {later} maxima late hi b own = record {
+  maxima = maxima;
   before = λ x h. refl;
   first = λ τ of same.
-      exchange n (entry t n) (nums l) (nums (w .columns)) (nums (w .rows)) (marked .marked .marks .row) (marked .marked .marks .forth)
+      exchange n (entry t n) (nums l) (nums (w .columns)) (nums (w .rows)) (maxima .marks .row) (maxima .marks .forth)
       (λ k. 0 < nums later k) (λ k. decLt 0 (nums later k)) i (nums (w .columns) i) hi (late .late i hi (omega arith))
       (λ k h hk c hc max known. late .late k hk (omega arith))
       (λ c h hc max known. b .none c (omega arith) max known) τ of same;
@@ -42,11 +43,11 @@ settled-so {t} {n} {l} {w} {i} {j} {later} marked late hi b own = record {
 pub unsearched : {n : ℕ} → n ≤ rows → Unsearched n (replicate rows 0) (replicate rows 0)
 unsearched small = record { long-next = refl; long-step = refl; none = λ x h. getD-replicate rows x 0 0 (omega arith) }
 
-module _ {t : List ℤ} {n : ℕ} {l : List ℕ} {i j : ℕ} {w₀ : Marking} {next step : List ℕ} (small : n ≤ rows) (marked : MarkedIn t n l w₀) (hi : i < n)
+module _ {t : List ℤ} {n : ℕ} {l : List ℕ} {i j : ℕ} {w₀ : MarkArrays} {next step : List ℕ} (small : n ≤ rows) (maxima : MaximaIn t n l w₀) (hi : i < n)
     (s : Searched t n l i (w₀ .columns) next step)
-    (b : Least n (entry t n) (nums l) (nums (w₀ .rows)) (nums step) i (nums (w₀ .columns) i) j) where
+    (b : LeastColumn n (entry t n) (nums l) (nums (w₀ .rows)) (nums step) i (nums (w₀ .columns) i) j) where
   own : nums (w₀ .columns) i < n
-  own = marked .marked .marks .column i hi
+  own = maxima .marks .column i hi
 
   pub chosen-below : j < n
   chosen-below = omega (arith, b .within, own)
@@ -61,47 +62,48 @@ module _ {t : List ℤ} {n : ℕ} {l : List ℕ} {i j : ℕ} {w₀ : Marking} {n
 
   pub move-start : ShiftingIn t n l i j w₀ step w₀ i (nums (w₀ .rows) j)
   move-start = record {
-    long-rows = marked .long-rows;
-    long-columns = marked .long-columns;
-    shift = shift-start (marked .marked .marks) (s .found .ways) hi (marked .marked .of-maxima) chosen-below
-        (chosen (λ c. Maximum n (entry t n) (nums l) i c) (b .maximum) (marked .marked .of-maxima .maximum i hi))
-        (chosen (λ c. 0 < nums step (nums (w₀ .rows) c)) (b .eligible-row) (rw (marked .marked .marks .back i hi) (root-found (s .found .ways))));
+    long-rows = maxima .long-rows;
+    long-columns = maxima .long-columns;
+    shift = shift-start (maxima .marks) (s .found .ways) hi (maxima .of-maxima) chosen-below
+        (chosen (λ c. Maximum n (entry t n) (nums l) i c) (b .maximum) (maxima .of-maxima .maximum i hi))
+        (chosen (λ c. 0 < nums step (nums (w₀ .rows) c)) (b .eligible-row) (rw (maxima .marks .back i hi) (root-found (s .found .ways))));
   }
 
-  module _ {w : Marking} {k m : ℕ} (p : ShiftingIn t n l i j w₀ step w k m) where
+  module _ {w : MarkArrays} {k m : ℕ} (p : ShiftingIn t n l i j w₀ step w k m) where
     -- the way has not come to row i, which has step 1
     under-way : nums step m ≢ 1 → m ≢ i
     under-way on e = on (ap (nums step) e ∙ s .found .ways .root)
 
     pub move-less : nums step m ≢ 1 → nums step (nums next m) < nums step m
-    move-less on = shift-less (marked .marked .marks) (s .found .ways) hi (p .shift) (under-way on)
+    move-less on = shift-less (maxima .marks) (s .found .ways) hi (p .shift) (under-way on)
 
-    pub move-next : {r : Marking} → nums step m ≢ 1 → Swapped w k m r → ShiftingIn t n l i j w₀ step r m (nums next m)
+    pub move-next : {r : MarkArrays} → nums step m ≢ 1 → Swapped w k m r → ShiftingIn t n l i j w₀ step r m (nums next m)
     move-next on is =
         let f = p .shift in
-        let apart = not-yet (marked .marked .marks) (s .found .ways) hi f (under-way on) in
+        let apart = not-yet (maxima .marks) (s .found .ways) hi f (under-way on) in
         record {
           long-rows = swap-long-rows is (f .marks) small (p .long-rows) (p .long-columns) (f .row) (f .goal) apart;
           long-columns = swap-long-columns is (f .marks) small (p .long-rows) (p .long-columns) (f .row) (f .goal) apart;
-          shift = shift-next (marked .marked .marks) (s .found .ways) hi f (under-way on)
+          shift = shift-next (maxima .marks) (s .found .ways) hi f (under-way on)
               (swap-stores is (f .marks) small (p .long-rows) (p .long-columns) (f .row) (f .goal) apart);
         }
 
-    pub move-end : nums step m ≡ 1 → Settled t n l w₀ i w
+    pub move-end : nums step m ≡ 1 → Starred t n l w₀ i w
     move-end first =
         let end = root-alone (s .found .ways) m (p .shift .goal) first in
-        let max = shift-maxima (marked .marked .marks) (s .found .ways) hi (p .shift) end in
-        let takes = shift-takes (marked .marked .marks) (s .found .ways) hi (p .shift) end in
+        let max = shift-maxima (maxima .marks) (s .found .ways) hi (p .shift) end in
+        let takes = shift-takes (maxima .marks) (s .found .ways) hi (p .shift) end in
         record {
-          marked = record {
+          maxima = record {
             long-rows = p .long-rows;
             long-columns = p .long-columns;
-            marked = record { marks = p .shift .marks; of-maxima = of-marks (p .shift .marks) max };
+            marks = p .shift .marks;
+            of-maxima = of-marks (p .shift .marks) max;
           };
           before = p .shift .before;
           first = λ τ of same. rw takes (
-              exchange n (entry t n) (nums l) (nums (w₀ .columns)) (nums (w₀ .rows)) (marked .marked .marks .row) (marked .marked .marks .forth)
+              exchange n (entry t n) (nums l) (nums (w₀ .columns)) (nums (w₀ .rows)) (maxima .marks .row) (maxima .marks .forth)
               (λ x. 0 < nums step x) (λ x. decLt 0 (nums step x)) i j hi (root-found (s .found .ways))
-              (λ x h hx c hc top known. s .all (nums (w₀ .rows) c) (marked .marked .marks .row c hc) known x h hx (rw (marked .marked .marks .forth c hc) top))
+              (λ x h hx c hc top known. s .all (nums (w₀ .rows) c) (maxima .marks .row c hc) known x h hx (rw (maxima .marks .forth c hc) top))
               (λ c h hc top known. b .none c h top known) τ of (λ x h. same x h ∙ p .shift .before x h));
         }

@@ -11,29 +11,29 @@ use Rattle.theory.specs.Limits.{rows}
 use Rattle.theory.specs.Lists.{nums}
 use Rattle.theory.specs.Table.{entry}
 use Rattle.theory.specs.Canon.{Stars}
-use Rattle.stars.specs.Shift.{Marking, MarkedIn, FirstAt, Settled, Later}
+use Rattle.stars.specs.Shift.{MarkArrays, MaximaIn, FirstAt, Starred, Later}
 
 -- the rows before i are at their first columns
-pub record Progress (t : List ℤ) (n : ℕ) (l : List ℕ) (w : Marking) (later : List ℕ) (i : ℕ) : Type 0 where
+pub record Progress (t : List ℤ) (n : ℕ) (l : List ℕ) (w : MarkArrays) (later : List ℕ) (i : ℕ) : Type 0 where
   pub below : i ≤ n
-  pub marked : MarkedIn t n l w
+  pub maxima : MaximaIn t n l w
   pub eligible : Later n i later
   pub first : (x : ℕ) → x < i → FirstAt t n l (nums (w .columns)) x
 
-module _ {t : List ℤ} {n : ℕ} {l : List ℕ} {w : Marking} where
-  pub progress-start : n ≤ rows → MarkedIn t n l w → Progress t n l w (replicate rows 1) 0
-  progress-start small marked = record {
+module _ {t : List ℤ} {n : ℕ} {l : List ℕ} {w : MarkArrays} where
+  pub progress-start : n ≤ rows → MaximaIn t n l w → Progress t n l w (replicate rows 1) 0
+  progress-start small maxima = record {
     below = omega arith;
-    marked = marked;
+    maxima = maxima;
     eligible = record { long = refl; late = λ k hk h. omega (arith, getD-replicate {A = ℕ} rows k 1 0 (omega arith)) };
     first = λ x h. absurd (omega arith);
   }
 
   module _ {later : List ℕ} {i : ℕ} (p : Progress t n l w later i) where
-    pub progress-next : {r : Marking} → i < n → Settled t n l w i r → Progress t n l r (set later i 0) (i + 1)
+    pub progress-next : {r : MarkArrays} → i < n → Starred t n l w i r → Progress t n l r (set later i 0) (i + 1)
     progress-next {r} hi s = record {
       below = omega arith;
-      marked = s .marked;
+      maxima = s .maxima;
       eligible = record {
         long = length-set later i 0 ∙ p .eligible .long;
         late = λ k hk h. rw (getD-set-other later i k 0 0 (omega arith)) (p .eligible .late k hk (omega arith));
@@ -46,6 +46,6 @@ module _ {t : List ℤ} {n : ℕ} {l : List ℕ} {w : Marking} where
 
     pub progress-end : n ≤ i → Stars n (entry t n) (nums l) (nums (w .columns))
     progress-end h = record {
-      of-maxima = p .marked .marked .of-maxima;
+      of-maxima = p .maxima .of-maxima;
       first = λ τ of b. omega (arith, b .smaller, p .first (b .row) (omega (arith, b .inside)) τ of (b .same));
     }

@@ -10,17 +10,19 @@ use Rattle.theory.specs.Limits.{rows}
 use Rattle.theory.specs.Lists.{nums}
 use Rattle.theory.specs.Table.{entry}
 use Rattle.theory.specs.Canon.{Maximum}
-use Rattle.stars.specs.Search.{Ways, Long, Joined, ScannedTo, FoundIn, Scanned, Searched}
-use Rattle.stars.proofs.Joining.{Put, put, queue-room, found-more, grown-more, scanned-found, scanned-next, grown-none, found-first}
+use Rattle.stars.specs.Search.{Ways, LongWays, Joined, ScannedTo, RowsFoundIn, Scanned, Searched}
+use Rattle.stars.proofs.Joining.{queue-room, found-more, more-found, scanned-found, scanned-next, more-none, found-first}
+use Rattle.orders.proofs.Stores.{Put, put-nums}
+use Rattle.orders.specs.Held.{Long}
 
 -- a store in an array, as an equation gives it
 put-is : (l l′ : List ℕ) (k v : ℕ) → l′ ≡ set l k v → k < length l → Put (nums l) (nums l′) k v
-put-is l l′ k v e h = rw e (put l k v h)
+put-is l l′ k v e h = rw e (put-nums l k v h)
 
-length-is : (l l′ : List ℕ) (k v : ℕ) → l′ ≡ set l k v → length l ≡ rows → length l′ ≡ rows
+length-is : (l l′ : List ℕ) (k v : ℕ) → l′ ≡ set l k v → Long l → Long l′
 length-is l l′ k v e h = ap length e ∙ length-set l k v ∙ h
 
-long-join : {w r : Ways} {k m : ℕ} → Long w → Joined w k m r → Long r
+long-join : {w r : Ways} {k m : ℕ} → LongWays w → Joined w k m r → LongWays r
 long-join {w} {r} {k} {m} h j = record {
   next = length-is (w .next) (r .next) k m (j .next) (h .next);
   step = length-is (w .step) (r .step) k (w .count + 1) (j .step) (h .step);
@@ -29,19 +31,19 @@ long-join {w} {r} {k} {m} h j = record {
 
 -- the columns of the first `at` rows of the queue are scanned
 pub record SearchedTo (t : List ℤ) (n : ℕ) (l : List ℕ) (i : ℕ) (column-of : List ℕ) (at : ℕ) (w : Ways) : Type 0 where
-  pub ways : FoundIn t n l i column-of w
+  pub ways : RowsFoundIn t n l i column-of w
   pub scanned : (p : ℕ) → p < at → ScannedTo n (entry t n) (nums l) i (nums column-of (nums (w .queue) p)) (nums (w .step)) n
 
 module _ {t : List ℤ} {n : ℕ} {l : List ℕ} {i : ℕ} {columns : List ℕ} where
   -- a row that is not found leaves room in the queue
-  pub join-room : {w : Ways} → FoundIn t n l i columns w → (k : ℕ) → k < n → nums (w .step) k ≡ 0 → w .count < n
+  pub join-room : {w : Ways} → RowsFoundIn t n l i columns w → (k : ℕ) → k < n → nums (w .step) k ≡ 0 → w .count < n
   join-room {w} f k hk none =
       queue-room (f .ways) k hk none
 
   -- ---- one column is scanned
-  pub scan-start : {w : Ways} {m : ℕ} → FoundIn t n l i columns w → Scanned t n l i columns m (i + 1) w w
+  pub scan-start : {w : Ways} {m : ℕ} → RowsFoundIn t n l i columns w → Scanned t n l i columns m (i + 1) w w
   scan-start {w} f =
-      record { ways = f; grown = grown-none n (nums (w .step)) (nums (w .queue)) (w .count); all = λ x h b. absurd (omega arith) }
+      record { ways = f; grown = more-none n (nums (w .step)) (nums (w .queue)) (w .count); all = λ x h b. absurd (omega arith) }
 
   module _ {m k : ℕ} {w r : Ways} (s : Scanned t n l i columns m k w r) where
     pub scan-next : (Maximum n (entry t n) (nums l) k (nums columns m) → 0 < nums (r .step) k) → Scanned t n l i columns m (k + 1) w r
@@ -63,12 +65,12 @@ module _ {t : List ℤ} {n : ℕ} {l : List ℕ} {i : ℕ} {columns : List ℕ} 
         let pq = put-is (r .queue) (r′ .queue) (r .count) k (j .queue) (omega (arith, long .queue)) in
         record {
           ways = record { long = long-join long j; ways = rw (j .count) (found-more f hk later none hm known′ tight px ps pq) };
-          grown = rw (j .count) (grown-more f hk later none hm known′ tight px ps pq (s .grown));
+          grown = rw (j .count) (more-found f hk later none hm known′ tight px ps pq (s .grown));
           all = scanned-found f hk later none hm known′ tight px ps pq (s .all);
         }
 
   -- ---- all columns of the queue are scanned
-  pub search-start : {w r : Ways} → n ≤ rows → i < n → Long w → ((x : ℕ) → x < n → nums (w .step) x ≡ 0) → w .count ≡ 0 → Joined w i i r → SearchedTo t n l i columns 0 r
+  pub search-start : {w r : Ways} → n ≤ rows → i < n → LongWays w → ((x : ℕ) → x < n → nums (w .step) x ≡ 0) → w .count ≡ 0 → Joined w i i r → SearchedTo t n l i columns 0 r
   search-start {w} {r} small hi long none zero j =
       let ps = put-is (w .step) (r .step) i (w .count + 1) (j .step) (omega (arith, long .step)) in
       let pq = put-is (w .queue) (r .queue) (w .count) i (j .queue) (omega (arith, long .queue)) in
@@ -76,7 +78,7 @@ module _ {t : List ℤ} {n : ℕ} {l : List ℕ} {i : ℕ} {columns : List ℕ} 
         ways = record {
           long = long-join long j;
           ways = rw (j .count, zero) (found-first n (entry t n) (nums l) i (nums columns) (nums (r .next)) (nums (r .step)) (nums (r .queue)) (nums (w .step)) hi none
-              (rw zero at ps) (ap (nums (r .queue)) (sym zero) ∙ pq .here));
+              (rw zero at ps) (ap (nums (r .queue)) (sym zero) ∙ pq .at));
         };
         scanned = λ p h. absurd (omega arith);
       }

@@ -7,7 +7,7 @@ use native.Mathlib.Omega.{arith}
 use lib.IntN.{ℤ}
 use Rattle.theory.specs.Canon.{Maximum, OfMaxima}
 use Rattle.orders.specs.Places.{Marks}
-use Rattle.stars.specs.Search.{Found}
+use Rattle.stars.specs.Search.{RowsFound}
 use Rattle.stars.proofs.Swapping.{Swap, one-row, by-row, swap-marks}
 
 -- marks that undo each other, each row's at a column maximum, are a complete transversal of column maxima
@@ -35,7 +35,7 @@ pub record Shifting (n : ℕ) (a : ℕ → ℕ → ℤ) (l : ℕ → ℕ) (i j :
   pub taken : k ≢ i → σ i ≡ j
 
 module _ {n : ℕ} {a : ℕ → ℕ → ℤ} {l : ℕ → ℕ} {i j : ℕ} {σ₀ ρ₀ next step queue : ℕ → ℕ} {count : ℕ} (w₀ : Marks n ρ₀ σ₀)
-    (ways : Found n a l i σ₀ next step queue count) (hi : i < n) where
+    (ways : RowsFound n a l i σ₀ next step queue count) (hi : i < n) where
   pub shift-start : OfMaxima n a l σ₀ → j < n → Maximum n a l i j → 0 < step (ρ₀ j) → Shifting n a l i j σ₀ step ρ₀ σ₀ i (ρ₀ j)
   shift-start of hj max known = record {
     marks = w₀;

@@ -10,7 +10,8 @@ use lib.Seq.{getD-set-same, getD-set-other}
 use Rattle.theory.specs.Limits.{rows}
 use Rattle.theory.specs.Lists.{nums}
 use Rattle.orders.specs.Places.{Marks}
-use Rattle.stars.specs.Shift.{Marking, Swapped}
+use Rattle.orders.specs.Held.{Long}
+use Rattle.stars.specs.Shift.{MarkArrays, Swapped}
 
 -- rows k and m have the columns of each other, and all else is as it was
 pub record Swap (ρ σ ρ′ σ′ : ℕ → ℕ) (k m : ℕ) : Type 0 where
@@ -65,8 +66,8 @@ module _ (l l′ : List ℕ) (x y v w : ℕ) (is : l′ ≡ set (set l x v) y w)
   no-store z a b = rw is (getD-set-other (set l x v) y z w 0 b ∙ getD-set-other l x z v 0 a)
 
 -- the four stores of an exchange
-module _ {n : ℕ} {w r : Marking} {k m : ℕ} (is : Swapped w k m r) (marks : Marks n (nums (w .rows)) (nums (w .columns))) (small : n ≤ rows)
-    (long-rows : length (w .rows) ≡ rows) (long-columns : length (w .columns) ≡ rows) (hk : k < n) (hm : m < n) (apart : k ≢ m) where
+module _ {n : ℕ} {w r : MarkArrays} {k m : ℕ} (is : Swapped w k m r) (marks : Marks n (nums (w .rows)) (nums (w .columns))) (small : n ≤ rows)
+    (long-rows : Long (w .rows)) (long-columns : Long (w .columns)) (hk : k < n) (hm : m < n) (apart : k ≢ m) where
   other-columns : nums (w .columns) m ≢ nums (w .columns) k
   other-columns e = apart (sym (one-row marks m k hm hk e))
 
@@ -85,8 +86,8 @@ module _ {n : ℕ} {w r : Marking} {k m : ℕ} (is : Swapped w k m r) (marks : M
         rest-row = λ y na nb. no-store (w .rows) (r .rows) b a k m (is .rows) other-columns y nb na;
       }
 
-  pub swap-long-rows : length (r .rows) ≡ rows
+  pub swap-long-rows : Long (r .rows)
   swap-long-rows = ap length (is .rows) ∙ simp length-set long-rows
 
-  pub swap-long-columns : length (r .columns) ≡ rows
+  pub swap-long-columns : Long (r .columns)
   swap-long-columns = ap length (is .columns) ∙ simp length-set long-columns

@@ -4,15 +4,15 @@ use mathlib.Core.Logic.{_≢_}
 use mathlib.Core.List.{List}
 use Prim.Native.Nat.{ℕ, _+_, _-_, _≤_, _<_}
 use lib.IntN.{ℤ}
-use lib.ListN.{length, set}
-use Rattle.theory.specs.Limits.{rows}
+use lib.ListN.{set}
 use Rattle.theory.specs.Lists.{nums}
 use Rattle.theory.specs.Table.{entry}
 use Rattle.theory.specs.Canon.{Maximum}
+use Rattle.orders.specs.Held.{Long}
 
 module _ (n : ℕ) (a : ℕ → ℕ → ℤ) (l : ℕ → ℕ) where
   -- r is the least column before `own` in which row i has a maximum and whose marked row is eligible, or else `own`
-  pub record Least (row-of eligible : ℕ → ℕ) (i own r : ℕ) : Type 0 where
+  pub record LeastColumn (row-of eligible : ℕ → ℕ) (i own r : ℕ) : Type 0 where
     pub within : r ≤ own
     pub maximum : r < own → Maximum n a l i r
     pub eligible-row : r < own → 0 < eligible (row-of r)
@@ -20,7 +20,7 @@ module _ (n : ℕ) (a : ℕ → ℕ → ℤ) (l : ℕ → ℕ) where
 
   -- The rows found so far, row i the first of them, stand in the queue in the order of their steps; each but row i has a maximum in the
   -- column of the row `next` that it goes on to, which was found before it.
-  pub record Found (i : ℕ) (column-of next step queue : ℕ → ℕ) (count : ℕ) : Type 0 where
+  pub record RowsFound (i : ℕ) (column-of next step queue : ℕ → ℕ) (count : ℕ) : Type 0 where
     pub root : step i ≡ 1
     pub row : (p : ℕ) → p < count → queue p < n
     pub late : (p : ℕ) → p < count → i ≤ queue p
@@ -37,7 +37,7 @@ module _ (n : ℕ) (a : ℕ → ℕ → ℤ) (l : ℕ → ℕ) where
   ScannedTo i column step k = (x : ℕ) → i < x → x < k → Maximum n a l x column → 0 < step x
 
 -- what was found stays as it was
-pub record Grown (n : ℕ) (step queue : ℕ → ℕ) (count : ℕ) (step′ queue′ : ℕ → ℕ) (count′ : ℕ) : Type 0 where
+pub record MoreFound (n : ℕ) (step queue : ℕ → ℕ) (count : ℕ) (step′ queue′ : ℕ → ℕ) (count′ : ℕ) : Type 0 where
   pub more : count ≤ count′
   pub same : (p : ℕ) → p < count → queue′ p ≡ queue p
   pub kept : (k : ℕ) → k < n → 0 < step k → 0 < step′ k
@@ -58,10 +58,10 @@ pub record Ways : Type 0 where
 abbrev pub ways : List ℕ → List ℕ → List ℕ → ℕ → Ways
 ways next step queue count = record { next = next; step = step; queue = queue; count = count }
 
-pub record Long (w : Ways) : Type 0 where
-  pub next : length (w .next) ≡ rows
-  pub step : length (w .step) ≡ rows
-  pub queue : length (w .queue) ≡ rows
+pub record LongWays (w : Ways) : Type 0 where
+  pub next : Long (w .next)
+  pub step : Long (w .step)
+  pub queue : Long (w .queue)
 
 -- row k has joined, with a step to row m
 pub record Joined (w : Ways) (k m : ℕ) (r : Ways) : Type 0 where
@@ -70,25 +70,25 @@ pub record Joined (w : Ways) (k m : ℕ) (r : Ways) : Type 0 where
   pub queue : r .queue ≡ set (w .queue) (w .count) k
   pub count : r .count ≡ w .count + 1
 
-pub record FoundIn (t : List ℤ) (n : ℕ) (l : List ℕ) (i : ℕ) (column-of : List ℕ) (w : Ways) : Type 0 where
-  pub long : Long w
-  pub ways : Found n (entry t n) (nums l) i (nums column-of) (nums (w .next)) (nums (w .step)) (nums (w .queue)) (w .count)
+pub record RowsFoundIn (t : List ℤ) (n : ℕ) (l : List ℕ) (i : ℕ) (column-of : List ℕ) (w : Ways) : Type 0 where
+  pub long : LongWays w
+  pub ways : RowsFound n (entry t n) (nums l) i (nums column-of) (nums (w .next)) (nums (w .step)) (nums (w .queue)) (w .count)
 
 -- more rows are found, and all rows before k that have a maximum in the column of row m
 pub record Scanned (t : List ℤ) (n : ℕ) (l : List ℕ) (i : ℕ) (column-of : List ℕ) (m k : ℕ) (w r : Ways) : Type 0 where
-  pub ways : FoundIn t n l i column-of r
-  pub grown : Grown n (nums (w .step)) (nums (w .queue)) (w .count) (nums (r .step)) (nums (r .queue)) (r .count)
+  pub ways : RowsFoundIn t n l i column-of r
+  pub grown : MoreFound n (nums (w .step)) (nums (w .queue)) (w .count) (nums (r .step)) (nums (r .queue)) (r .count)
   pub all : ScannedTo n (entry t n) (nums l) i (nums column-of m) (nums (r .step)) k
 
 -- no row is found yet
 pub record Unsearched (n : ℕ) (next step : List ℕ) : Type 0 where
-  pub long-next : length next ≡ rows
-  pub long-step : length step ≡ rows
+  pub long-next : Long next
+  pub long-step : Long step
   pub none : (k : ℕ) → k < n → nums step k ≡ 0
 
 -- every row after i from which the column of row i can be reached is found, in some order
 pub record Searched (t : List ℤ) (n : ℕ) (l : List ℕ) (i : ℕ) (column-of next step : List ℕ) : Type 0 where
   pub queue : List ℕ
   pub count : ℕ
-  pub found : FoundIn t n l i column-of (ways next step queue count)
+  pub found : RowsFoundIn t n l i column-of (ways next step queue count)
   pub all : (m : ℕ) → m < n → 0 < nums step m → ScannedTo n (entry t n) (nums l) i (nums column-of m) (nums step) n

@@ -3,26 +3,28 @@ use mathlib.Core.Path.{_≡_}
 use mathlib.Core.List.{List}
 use Prim.Native.Nat.{ℕ, _≤_, _<_}
 use lib.IntN.{ℤ}
-use lib.ListN.{length, set}
+use lib.ListN.{set}
 use Rattle.theory.specs.Limits.{rows}
 use Rattle.theory.specs.Lists.{nums}
 use Rattle.theory.specs.Table.{entry}
 use Rattle.theory.specs.Canon.{OfMaxima}
-use Rattle.stars.specs.Given.{Marked}
+use Rattle.orders.specs.Places.{Marks}
+use Rattle.orders.specs.Held.{Long}
 
 -- the marks of a complete transversal, as the arrays of the code hold them: the row of each column and the column of each row
-pub record Marking : Type 0 where
+pub record MarkArrays : Type 0 where
   pub rows : List ℕ
   pub columns : List ℕ
 
-abbrev pub marking : List ℕ → List ℕ → Marking
-marking row-of column-of = record { rows = row-of; columns = column-of }
+abbrev pub mark-arrays : List ℕ → List ℕ → MarkArrays
+mark-arrays row-of column-of = record { rows = row-of; columns = column-of }
 
--- they are the marks of column maxima, and the arrays have room for the largest table
-pub record MarkedIn (t : List ℤ) (n : ℕ) (l : List ℕ) (w : Marking) : Type 0 where
-  pub long-rows : length (w .rows) ≡ rows
-  pub long-columns : length (w .columns) ≡ rows
-  pub marked : Marked t n l (w .rows) (w .columns)
+-- they are the marks of column maxima, and the arrays have a place for each row of the largest table
+pub record MaximaIn (t : List ℤ) (n : ℕ) (l : List ℕ) (w : MarkArrays) : Type 0 where
+  pub long-rows : Long (w .rows)
+  pub long-columns : Long (w .columns)
+  pub marks : Marks n (nums (w .rows)) (nums (w .columns))
+  pub of-maxima : OfMaxima n (entry t n) (nums l) (nums (w .columns))
 
 -- rows k and m and their columns are within the arrays
 pub record Swappable (columns : List ℕ) (k m : ℕ) : Type 0 where
@@ -32,7 +34,7 @@ pub record Swappable (columns : List ℕ) (k m : ℕ) : Type 0 where
   pub other-column : nums columns m < rows
 
 -- rows k and m have exchanged their columns
-pub record Swapped (w : Marking) (k m : ℕ) (r : Marking) : Type 0 where
+pub record Swapped (w : MarkArrays) (k m : ℕ) (r : MarkArrays) : Type 0 where
   pub columns : r .columns ≡ set (set (w .columns) k (nums (w .columns) m)) m (nums (w .columns) k)
   pub rows : r .rows ≡ set (set (w .rows) (nums (w .columns) m) k) (nums (w .columns) k) m
 
@@ -41,12 +43,12 @@ abbrev pub FirstAt : List ℤ → ℕ → List ℕ → (ℕ → ℕ) → ℕ →
 FirstAt t n l σ i = (τ : ℕ → ℕ) → OfMaxima n (entry t n) (nums l) τ → ((x : ℕ) → x < i → τ x ≡ σ x) → σ i ≤ τ i
 
 -- row i has come to its first column, and the rows before it have kept theirs
-pub record Settled (t : List ℤ) (n : ℕ) (l : List ℕ) (w : Marking) (i : ℕ) (r : Marking) : Type 0 where
-  pub marked : MarkedIn t n l r
+pub record Starred (t : List ℤ) (n : ℕ) (l : List ℕ) (w : MarkArrays) (i : ℕ) (r : MarkArrays) : Type 0 where
+  pub maxima : MaximaIn t n l r
   pub before : (x : ℕ) → x < i → nums (r .columns) x ≡ nums (w .columns) x
   pub first : FirstAt t n l (nums (r .columns)) i
 
 -- every row from i on is eligible (that no other is only saves time)
 pub record Later (n i : ℕ) (eligible : List ℕ) : Type 0 where
-  pub long : length eligible ≡ rows
+  pub long : Long eligible
   pub late : (k : ℕ) → k < n → i ≤ k → 0 < nums eligible k

@@ -4,9 +4,11 @@ ghost use Rattle.theory.specs.Lists.{nums};
 ghost use Rattle.theory.specs.Table.{entry};
 ghost use Rattle.theory.specs.Canon.{Maximum, Stars};
 ghost use Rattle.orders.specs.Tested.{Tells};
-ghost use Rattle.stars.specs.Given.{Given, Ready};
-ghost use Rattle.stars.specs.Search.{Least, Columns, ways, Joined, FoundIn, Scanned, Unsearched, Searched};
-ghost use Rattle.stars.specs.Shift.{marking, MarkedIn, Swappable, Swapped, Settled, Later};
+ghost use Rattle.orders.specs.Places.{Marks};
+ghost use Rattle.orders.specs.Held.{CanonBy};
+ghost use Rattle.stars.specs.Given.{Given};
+ghost use Rattle.stars.specs.Search.{LeastColumn, Columns, ways, Joined, RowsFoundIn, Scanned, Unsearched, Searched};
+ghost use Rattle.stars.specs.Shift.{mark-arrays, MaximaIn, Swappable, Swapped, Starred, Later};
 use orders::ROWS;
 
 // Is the place of row i and column j a column maximum? It is when it is present and the raised order is the column's head. The
@@ -28,7 +30,7 @@ fn tight(
 
 // The least column before `own` in which row i has a maximum and whose marked row is eligible, or else `own`. The contract rules out
 // a column passed over, one that is no maximum and one whose row is not eligible.
-fn least(
+fn least_column(
     table: &[i16],
     n: usize,
     additions: &[u32; ROWS],
@@ -39,7 +41,7 @@ fn least(
     own: usize,
 ) -> usize
     requires { ⌜ Given (now table) n (now additions) (now heads) × (i < n) × (own < n) × ((j : ℕ) → j < n → nums (now rows) j < n) ⌝ }
-    ensures { λ r. ⌜ Least n (entry (now (table .entry)) n) (nums (now (additions .entry))) (nums (now (rows .entry))) (nums (now (eligible .entry))) i own r ⌝ }
+    ensures { λ r. ⌜ LeastColumn n (entry (now (table .entry)) n) (nums (now (additions .entry))) (nums (now (rows .entry))) (nums (now (eligible .entry))) i own r ⌝ }
 {
     let mut j = 0;
     while j < own {
@@ -94,7 +96,7 @@ fn scan(
     step: &mut [usize; ROWS],
     queue: &mut [usize; ROWS],
 ) -> usize
-    requires { ⌜ Given (now table) n (now additions) (now heads) × Columns n i (now columns) × (m < n) × (0 < nums (now step) m) × FoundIn (now table) n (now additions) i (now columns) (ways (now next) (now step) (now queue) count) ⌝ }
+    requires { ⌜ Given (now table) n (now additions) (now heads) × Columns n i (now columns) × (m < n) × (0 < nums (now step) m) × RowsFoundIn (now table) n (now additions) i (now columns) (ways (now next) (now step) (now queue) count) ⌝ }
     ensures { λ r. ⌜ Scanned
         (now (table .entry))
         n
@@ -160,7 +162,7 @@ fn find_ways(
 // Rows k and m exchange their columns. Rules out a mark of another row or column changed.
 fn swap(k: usize, m: usize, rows: &mut [usize; ROWS], columns: &mut [usize; ROWS])
     requires { ⌜ Swappable (now columns) k m ⌝ }
-    ensures { λ r. ⌜ Swapped (marking (now (rows .entry)) (now (columns .entry))) k m (marking (now (rows .exit)) (now (columns .exit))) ⌝ }
+    ensures { λ r. ⌜ Swapped (mark-arrays (now (rows .entry)) (now (columns .entry))) k m (mark-arrays (now (rows .exit)) (now (columns .exit))) ⌝ }
 {
     let left = columns[k];
     let taken = columns[m];
@@ -183,14 +185,14 @@ fn shift(
     rows: &mut [usize; ROWS],
     columns: &mut [usize; ROWS],
 )
-    requires { ⌜ Given (now table) n (now additions) (now heads) × MarkedIn (now table) n (now additions) (marking (now rows) (now columns)) × (i < n) ⌝ }
-    ensures { λ r. ⌜ Settled
+    requires { ⌜ Given (now table) n (now additions) (now heads) × MaximaIn (now table) n (now additions) (mark-arrays (now rows) (now columns)) × (i < n) ⌝ }
+    ensures { λ r. ⌜ Starred
         (now (table .entry))
         n
         (now (additions .entry))
-        (marking (now (rows .entry)) (now (columns .entry)))
+        (mark-arrays (now (rows .entry)) (now (columns .entry)))
         i
-        (marking (now (rows .exit)) (now (columns .exit))) ⌝ }
+        (mark-arrays (now (rows .exit)) (now (columns .exit))) ⌝ }
 {
     let mut next = [0usize; ROWS];
     let mut step = [0usize; ROWS];
@@ -204,7 +206,7 @@ fn shift(
         &mut next,
         &mut step,
     );
-    let j = least(table, n, additions, heads, &*rows, &step, i, columns[i]);
+    let j = least_column(table, n, additions, heads, &*rows, &step, i, columns[i]);
     let mut k = i;
     let mut m = rows[j];
     while step[m] != 1 {
@@ -216,7 +218,7 @@ fn shift(
 
 // Row i comes to the first column that the rows before it leave to it. Most rows are there already: no earlier column in which row i
 // has a maximum belongs to a later row, and nothing is searched. Rules out what `shift` rules out.
-fn settle(
+fn star_row(
     table: &[i16],
     n: usize,
     additions: &[u32; ROWS],
@@ -226,17 +228,17 @@ fn settle(
     rows: &mut [usize; ROWS],
     columns: &mut [usize; ROWS],
 )
-    requires { ⌜ Given (now table) n (now additions) (now heads) × MarkedIn (now table) n (now additions) (marking (now rows) (now columns)) × Later n i (now later) × (i < n) ⌝ }
-    ensures { λ r. ⌜ Settled
+    requires { ⌜ Given (now table) n (now additions) (now heads) × MaximaIn (now table) n (now additions) (mark-arrays (now rows) (now columns)) × Later n i (now later) × (i < n) ⌝ }
+    ensures { λ r. ⌜ Starred
         (now (table .entry))
         n
         (now (additions .entry))
-        (marking (now (rows .entry)) (now (columns .entry)))
+        (mark-arrays (now (rows .entry)) (now (columns .entry)))
         i
-        (marking (now (rows .exit)) (now (columns .exit))) ⌝ }
+        (mark-arrays (now (rows .exit)) (now (columns .exit))) ⌝ }
 {
     let own = columns[i];
-    let j = least(table, n, additions, heads, &*rows, later, i, own);
+    let j = least_column(table, n, additions, heads, &*rows, later, i, own);
     if j == own {
         return;
     }
@@ -255,7 +257,7 @@ pub fn first_stars(
     row_of: [usize; ROWS],
     column_of: [usize; ROWS],
 ) -> [usize; ROWS]
-    requires { ⌜ Ready (now table) n (now additions) (now heads) «row_of» «column_of» ⌝ }
+    requires { ⌜ Given (now table) n (now additions) (now heads) × CanonBy (now table) n (now additions) «column_of» × Marks n (nums «row_of») (nums «column_of») ⌝ }
     ensures { λ r. ⌜ Stars n (entry (now (table .entry)) n) (nums (now (additions .entry))) (nums r) ⌝ }
 {
     let mut rows = row_of;
@@ -263,7 +265,7 @@ pub fn first_stars(
     let mut later = [1usize; ROWS];
     let mut i = 0;
     while i < n {
-        settle(
+        star_row(
             table,
             n,
             additions,

@@ -15,8 +15,8 @@ use Rattle.theory.specs.Totals.{total}
 use Rattle.theory.specs.Limits.{rows, order, handed}
 use Rattle.theory.specs.Lists.{nums, ints, flags, columns, StarList}
 use Rattle.theory.specs.Table.{absent, Present, Order, entry}
-use Rattle.theory.specs.Canon.{Transversal, raised, Maximum, OfMaxima, Canon, Heads, Before, sum, Misplaced, exceeded, Solution}
-use Rattle.theory.specs.Cases.{Handed, nothing, additions, stars, Outcome, answer, refusal6, refusal7, refusal8, Case, Leads, NoCanon, Misplaces, SomeTransversal, Comes, Right, Every, cases}
+use Rattle.theory.specs.Canon.{Transversal, raised, Maximum, OfMaxima, Canon, Heads, Before, sum, Misplaced, exceeded, Solution, SomeTransversal, NoTransversal}
+use Rattle.theory.specs.Cases.{Handed, nothing, additions, stars, Outcome, answer, refusal6, refusal7, refusal8, Case, Leads, NoCanon, Misplaces, Comes, Right, Every, cases}
 use Rattle.theory.proofs.Pigeonhole.{onto}
 use Rattle.theory.proofs.Signed.{signed}
 use Rattle.theory.proofs.Unique.{sum-same}
@@ -105,7 +105,7 @@ module _ (n : ℕ) (a : ℕ → ℕ → ℤ) where
             apart = λ i k hi hk. c .apart i k (omega arith) (omega arith);
           }
 
-  none-told : T (not transversal) → (σ : ℕ → ℕ) → Transversal n a σ → ⊥
+  none-told : T (not transversal) → NoTransversal n a
   unfolding transversal any
   none-told t σ r =
       T-not transversal t (found-tells n (λ i j. present (a i j)) any σ (r .inside) (λ i hi. present-tells (a i (σ i)) (r .present i hi)) (r .apart) (λ q e s. tt))

@@ -18,6 +18,13 @@ module _ (n : ℕ) (a : ℕ → ℕ → ℤ) where
     pub present : (i : ℕ) → i < n → Present (a i (σ i))
     pub apart : (i k : ℕ) → i < n → k < n → σ i ≡ σ k → i ≡ k
 
+  -- one exists, or refusal 6's "no complete transversal exists"
+  abbrev pub SomeTransversal : Type 0
+  SomeTransversal = (σ : ℕ → ℕ) × Transversal σ
+
+  abbrev pub NoTransversal : Type 0
+  NoTransversal = (σ : ℕ → ℕ) → Transversal σ → ⊥
+
   -- "each present order of row i is raised by l of row i"; read only where the order is present
   abbrev pub raised : (ℕ → ℕ) → ℕ → ℕ → ℤ
   raised l i j = a i j +ℤ pos (l i)

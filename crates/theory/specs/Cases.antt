@@ -8,7 +8,7 @@ use lib.ListN.{length}
 use Rattle.theory.specs.Limits.{rows, order, handed}
 use Rattle.theory.specs.Lists.{nums, ints, columns, StarList}
 use Rattle.theory.specs.Table.{absent, entry, Entries}
-use Rattle.theory.specs.Canon.{Transversal, Canon, Greatest, Misplaced, Solution}
+use Rattle.theory.specs.Canon.{SomeTransversal, NoTransversal, Canon, Greatest, Misplaced, Solution}
 
 -- what is handed in beside the table
 pub data Handed : Type 0 where
@@ -46,14 +46,11 @@ Misplaces n a nothing = ⊥
 Misplaces n a (additions m) = ⊥
 Misplaces n a (stars s) = StarList n s × Misplaced n a (columns s)
 
-abbrev pub SomeTransversal : (n : ℕ) → (ℕ → ℕ → ℤ) → Type 0
-SomeTransversal n a = (σ : ℕ → ℕ) × Transversal n a σ
-
 -- the outcome is right, by the definitions; the lowest refusal that applies
 abbrev pub Comes : (n : ℕ) → (ℕ → ℕ → ℤ) → Handed → Outcome → Type 0
 Comes n a given (answer l s h z) =
     Leads n a given × StarList n s × (length l ≡ n) × (length h ≡ n) × Solution n a (λ i. 0) (nums l) (columns s) (ints h) z
-Comes n a given refusal6 = (σ : ℕ → ℕ) → Transversal n a σ → ⊥
+Comes n a given refusal6 = NoTransversal n a
 Comes n a given refusal7 = SomeTransversal n a × NoCanon n a given
 Comes n a given refusal8 = SomeTransversal n a × Misplaces n a given
 

@@ -62,9 +62,10 @@ delivered-requires : tie.Need-delivered-requires
 delivered-requires c κs =
     let h = c .before .before .before .before .before .before in
     let d = h .before .before in
-    let l = d .before .before .from-additions .ensures .least (not-false _ (h .if3 .left)) in
+    let l = d .before .before .from-additions .ensures in
+    let canon = not-false _ (h .if3 .left) in
     let s = passed (d .before .before .before .before .before) in
-    (record { square = s .square; roomy = l .roomy; of-maxima = l .of-maxima; marks = l .marks }, lent (s .fitting .1))
+    (s .square, l .least canon .canon, l .marks canon, lent (s .fitting .1))
 
 same-length : tie.Need-same-length
 same-length c = search needs
@@ -85,7 +86,7 @@ returns-5 c =
     let canon = not-false _ (h .if3 .left) in
     routed (passed (e .before .before))
     (canon-passed _ _ (e .before .additions-stand .ensures) (not-false _ (e .if1 .left)) f (not-false _ (d .if2 .left)) canon)
-    (ap gives (toZ-ofZ {w = w32} {z = p .delivered .result} (sfits-of (p .delivered .ok)))) (f .least canon .simplest) (p .delivered .ensures)
+    (ap gives (toZ-ofZ {w = w32} {z = p .delivered .result} (sfits-of (p .delivered .ok)))) (f .least canon .least) (p .delivered .ensures)
 
 pub from-canon-spec : {M : Type 1} → statement M
 from-canon-spec =

@@ -67,15 +67,8 @@ delivered-requires c κs =
     let l = e .before .before .listed-marks .ensures in
     let f = d .before .before .from-columns .ensures in
     let greatest = not-false _ (h .if3 .left) in
-    let s = passed (e .before .before .before) in (
-      record {
-        square = s .square;
-        roomy = f .roomy greatest;
-        of-maxima = f .of-maxima greatest;
-        marks = l .marks (not-false _ (e .if1 .left));
-      },
-      lent (s .fitting .1),
-    )
+    let s = passed (e .before .before .before) in
+    (s .square, f .least greatest .canon, l .marks (not-false _ (e .if1 .left)), lent (s .fitting .1))
 
 same-length : tie.Need-same-length
 same-length c = search needs
@@ -96,7 +89,7 @@ returns-5 c =
     let greatest = not-false _ (h .if3 .left) in
     routed (passed (e .before .before .before))
     (stars-passed _ _ (e .before .before .listed-marks .ensures) (not-false _ (e .if1 .left)) f greatest)
-    (ap gives (toZ-ofZ {w = w32} {z = p .delivered .result} (sfits-of (p .delivered .ok)))) (f .simplest greatest) (p .delivered .ensures)
+    (ap gives (toZ-ofZ {w = w32} {z = p .delivered .result} (sfits-of (p .delivered .ok)))) (f .least greatest .least) (p .delivered .ensures)
 
 pub from-stars-spec : {M : Type 1} → statement M
 from-stars-spec =

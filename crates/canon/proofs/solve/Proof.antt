@@ -11,10 +11,14 @@ use mir.Syntax.{w32}
 use mir.Val.{SFits}
 use mir.Facts.{toZ-ofZ}
 use Rattle.orders.specs.Refusals.{gives}
-use Rattle.orders.proofs.Zeros.{zero-start}
+use Rattle.orders.specs.Held.{Long}
+use Rattle.orders.proofs.Zeros.{zero-start, zero-simplest}
 use Rattle.handed.specs.Handed.{Sound}
+use Rattle.outcome.specs.declared.WholeAnswer.{WholeAnswer}
+use Rattle.outcome.proofs.Delivery.{delivery}
 use Rattle.canon.proofs.Refusing.{basic-own, refuse-first, refuse-later, lent}
-use Rattle.canon.proofs.Solving.{Wide, found-routed}
+use Rattle.canon.proofs.Solving.{answer-whole}
+use Rattle.canon.proofs.Answering.{routed}
 use Rattle.canon.proofs.solve.Statement.{statement}
 use Rattle.canon.proofs.solve.Tie as tie
 
@@ -47,14 +51,14 @@ returns-2 c =
     refuse-later (passed (c .before .before .before)) 6 (inl (c .before .before .solved .ensures .none (not-true _ (c .if1 .taken)), refl)) refl
 
 -- what was found fits its types
-sum-fits : (c : tie.After-solved) → SFits w32 (c .solved .result .sum)
+abbrev answer : tie.After-solved → WholeAnswer
+answer c = c .solved .result .answer
+
+sum-fits : (c : tie.After-solved) → SFits w32 (answer c .sum)
 sum-fits c = search needs
 
-wide : (c : tie.After-solved) → Wide (c .solved .result)
+wide : (c : tie.After-solved) → Long (answer c .additions) × Long (answer c .stars) × Long (answer c .heads)
 wide c = search needs
-
-whole-of-requires : tie.Need-whole-of-requires
-whole-of-requires c κs = search needs
 
 hand-out-requires : tie.Need-hand-out-requires
 hand-out-requires c κs =
@@ -74,14 +78,13 @@ same-length-3 c = search needs
 returns-3 : tie.Need-returns-3
 returns-3 c =
     let h = c .before .before .before .before .before in
-    let w = h .before .before .before .before in
-    let e = w .before .before in
+    let e = h .before .before .before .before .before .before in
     let d = e .before .before in
     let s = passed (d .before) in
-    let found = d .solved .ensures .solution (not-false _ (e .if1 .left)) in
-    found-routed (now (d .before .before .before .before .before .before .args .table)) (s .square .small) (lent (s .fitting)) (wide d) (w .whole-of .ensures)
-    (h .hand-out .ensures) (d .solved .ensures .from-one (not-false _ (e .if1 .left))) found s
-    ((λ none. none _ (found .stars .of-maxima .transversal)), tt) (ap gives (toZ-ofZ (sum-fits d)))
+    let a = d .solved .ensures .answered (not-false _ (e .if1 .left)) in
+    routed s ((λ none. none _ (a .solution .stars .of-maxima .transversal)), tt) (ap gives (toZ-ofZ (sum-fits d)))
+    (zero-simplest (a .solution .additions))
+    (delivery (s .square .small) (lent (s .fitting)) (wide d .0) (wide d .1) (wide d .2) (answer-whole a) (h .hand-out .ensures))
 
 pub solve-spec : {M : Type 1} → statement M
 solve-spec =
@@ -93,7 +96,6 @@ solve-spec =
     enum-told
     solved-requires
     returns-2
-    whole-of-requires
     hand-out-requires
     same-length
     same-length-2

@@ -5,11 +5,11 @@ use native.Mathlib.Omega.{arith}
 use lib.IntN.{ℤ}
 use lib.ListN.{length-set}
 use Rattle.theory.specs.Lists.{nums}
-use Rattle.growth.specs.Steps.{Long}
-use Rattle.growth.specs.Standing.{WayBack}
-use Rattle.growth.proofs.Stores.{put-nums, same, same-less}
-use Rattle.growth.proofs.Flipping.{Open, open-start, before, open-step, open-still, open-end}
+use Rattle.orders.specs.Held.{Long}
+use Rattle.growth.specs.Growing.{WayBack}
+use Rattle.growth.proofs.Flipping.{Open, open-start, before, open-step, open-still, open-end, same-fewer, still-same}
 use Rattle.growth.proofs.flip.Statement.{statement}
+use Rattle.orders.proofs.Stores.{put-nums}
 use Rattle.growth.proofs.flip.Tie as tie
 
 abbrev Inv-loop : tie.InvT-loop
@@ -19,7 +19,7 @@ Inv-loop s end givers rows₀ columns₀ j₀ i₀ rows columns j i =
 
 abbrev μ-loop : tie.MeasureT-loop
 μ-loop s end givers rows₀ columns₀ j₀ i₀ rows columns j i =
-    same (nums rows₀) (nums rows)
+    still-same (nums rows₀) (nums rows)
 
 mul-i : tie.Need-mul-i Inv-loop μ-loop
 mul-i c = omega (arith, c .pre .way .inside, c .pre .way .small)
@@ -83,7 +83,7 @@ loop-less c =
     let p = c .before .before .before .before .before .pre in
     let v = c .before .before .before .loop in
     let o = v .inv .2 (p .n) (p .a) (p .l) (p .h) (p .way) in
-    same-less (nums (c .before .before .before .before .before .args .rows .now)) (omega (arith, o .inside, p .way .small))
+    same-fewer (nums (c .before .before .before .before .before .args .rows .now)) (omega (arith, o .inside, p .way .small))
     (put-nums (v .rows) (v .j) (v .i) (omega (arith, v .inv .0, o .inside, p .way .small))) (o .unflipped) (o .fresh)
 
 loop-again : tie.Need-loop-again Inv-loop μ-loop

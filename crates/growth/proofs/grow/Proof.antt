@@ -1,24 +1,24 @@
 -- The rows are inserted one after the other; when all are, the additions are the least canon from the start. Assumes nothing.
 use mathlib.Core.Path.{_≡_, refl}
 use mathlib.Core.Bool.{true, false}
-use Prim.Native.Nat.{ℕ, _-_, _≤_}
+use Prim.Native.Nat.{_-_, _≤_}
 use native.Mathlib.Omega.{arith}
 use borrow.Author.Needs.{needs}
 use borrow.Author.Tests.{ltb-true, ltb-false}
 use Rattle.theory.specs.Lists.{nums}
 use Rattle.theory.specs.Table.{entry}
-use Rattle.theory.specs.Canon.{Transversal}
+use Rattle.theory.specs.Canon.{NoTransversal}
 use Rattle.orders.proofs.Entries.{clash}
-use Rattle.growth.specs.Steps.{Long}
-use Rattle.growth.specs.Standing.{Ready}
-use Rattle.growth.proofs.Inserting.{first-ready, whole}
+use Rattle.orders.specs.Held.{Long}
+use Rattle.growth.specs.Growing.{Ready}
+use Rattle.growth.proofs.Inserting.{first-ready, grown-least, grown-marks}
 use Rattle.growth.proofs.grow.Statement.{statement}
 use Rattle.growth.proofs.grow.Tie as tie
 
 abbrev Inv-loop : tie.InvT-loop
 Inv-loop n table additions₀ heads₀ rows₀ columns₀ found₀ s₀ additions heads rows columns found s =
     (s ≤ n) × (found ≡ true → Ready table n (nums additions₀) s additions heads rows columns)
-    × (found ≡ false → (σ : ℕ → ℕ) → Transversal n (entry table n) σ → ⊥) × (Long additions × Long heads × Long rows × Long columns)
+    × (found ≡ false → NoTransversal n (entry table n)) × (Long additions × Long heads × Long rows × Long columns)
 
 abbrev μ-loop : tie.MeasureT-loop
 μ-loop n table additions₀ heads₀ rows₀ columns₀ found₀ s₀ additions heads rows columns found s =
@@ -57,13 +57,14 @@ returns c =
     let v = c .before .before .loop in
     let t = c .before .loop-test .taken in
     let e : v .s ≡ c .before .before .before .before .before .before .args .n = omega (arith, ltb-false) in
-    record { found = λ q. whole _ _ (rw e at (v .inv .1 t)); none = λ q. clash t q }
+    let r = rw e at (v .inv .1 t) in
+    record { found = λ q. grown-least r; marks = λ q. grown-marks r; none = λ q. clash t q }
 
 returns-2 : tie.Need-returns-2 Inv-loop μ-loop
 returns-2 c =
     let v = c .before .loop in
     let t = c .loop-test .left in
-    record { found = λ q. clash q t; none = λ q. v .inv .2 t }
+    record { found = λ q. clash q t; marks = λ q. clash q t; none = λ q. v .inv .2 t }
 
 pub grow-spec : {M : Type 1} → statement M
 grow-spec =

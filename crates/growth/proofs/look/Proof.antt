@@ -1,4 +1,4 @@
--- The gaps of the unreached columns, one after the other, with one more row in the tree. Assumes nothing.
+-- The gaps of the unset columns, one after the other, with one more row in the tree. Assumes nothing.
 use mathlib.Core.Path.{_≡_}
 use mathlib.Core.Logic.{inl, inr}
 use Prim.Native.Nat.{_-_, _≤_}
@@ -60,7 +60,7 @@ nearer-requires c κs =
     let s = c .before .before .before .before .before .before .before .before .before in
     let p = c .before .before .before .place in
     let j = c .before .before .before .before .before .before .before .loop .j in
-    let f = s .pre .fitting j (omega arith) in
+    let f = s .pre .reckonable j (omega arith) in
     rw (toZ-ofZ {w = w16} {z = p .result} (sfits-of (p .ok)), p .ensures, toZ-ofZ (head-fits (ints (s .args .heads .now) j) (f .head))) f
 
 mul-gaps-2 : tie.Need-mul-gaps-2 Inv-loop μ-loop
@@ -89,7 +89,7 @@ loop-again c =
     let w = c .before .before .before .loop .inv .1 in
     let s = c .before .before .before .before .before in
     let j = c .before .before .before .loop .j in
-    let f = s .pre .fitting j (omega arith) in
+    let f = s .pre .reckonable j (omega arith) in
     let g = head-fits (ints (s .args .heads .now) j) (f .head) in (
       omega arith,
       elim (c .if1 .came) [

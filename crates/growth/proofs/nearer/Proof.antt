@@ -2,7 +2,7 @@
 use native.Mathlib.Omega.{arith}
 use mir.Facts.{toZ-ofZ}
 use Rattle.orders.proofs.Entries.{absent-bits, present-bits}
-use Rattle.growth.proofs.Gaps.{gap-small, fitting-read, nearer-none, nearer-kept, nearer-taken}
+use Rattle.growth.proofs.Gaps.{gap-small, reckonable-read, nearer-none, nearer-kept, nearer-taken}
 use Rattle.growth.proofs.nearer.Statement.{statement}
 use Rattle.growth.proofs.nearer.Tie as tie
 
@@ -11,7 +11,7 @@ returns c = nearer-none _ _ _ _ _ _ (absent-bits _ (c .before .fits .order) (c .
 
 gap-requires : tie.Need-gap-requires
 gap-requires c κs = (
-  fitting-read (c .before .fits .order) (c .before .fits .head) (c .before .pre),
+  reckonable-read (c .before .fits .order) (c .before .fits .head) (c .before .pre),
   rw (toZ-ofZ (c .before .fits .order)) (present-bits _ (c .if1 .left)),
 )
 

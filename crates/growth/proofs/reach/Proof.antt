@@ -3,11 +3,11 @@ use mathlib.Core.List.{List}
 use Prim.Native.Nat.{ℕ, _<_}
 use native.Mathlib.Omega.{arith}
 use Rattle.theory.specs.Lists.{flags}
-use Rattle.growth.specs.Steps.{none}
-use Rattle.growth.specs.Standing.{Ready}
-use Rattle.growth.proofs.Stores.{unreached}
+use Rattle.growth.specs.Steps.{no-gap}
+use Rattle.growth.specs.Growing.{Ready}
 use Rattle.growth.proofs.Inserting.{Searching, begin, joining, closed, end-inside, rising, meeting, fewer, joined}
 use Rattle.growth.proofs.reach.Statement.{statement}
+use Rattle.orders.proofs.Flags.{unset}
 use Rattle.growth.proofs.reach.Tie as tie
 
 abbrev Inv-loop : tie.InvT-loop
@@ -17,7 +17,7 @@ Inv-loop table n s rows additions₀ heads₀ givers₀ tree₀ reached₀ gaps�
 
 abbrev μ-loop : tie.MeasureT-loop
 μ-loop table n s rows additions₀ heads₀ givers₀ tree₀ reached₀ gaps₀ row₀ additions heads givers tree reached gaps row =
-    unreached n (flags reached)
+    unset n (flags reached)
 
 loop-holds : tie.Need-loop-holds Inv-loop μ-loop
 loop-holds c =
@@ -58,7 +58,7 @@ rise-by-requires c κs =
     let s = c .before .before .before .before .before .before .before .before .before .before .before .before .before in
     let v = c .before .before .before .before .before .before .before .before .before .before .before .before .loop in
     let k = c .before .before .before .before .before .before .look in
-    let lt : k .result .gap < none = omega (arith, k .ensures .most, c .before .before .before .before .before .if1 .left) in
+    let lt : k .result .gap < no-gap = omega (arith, k .ensures .most, c .before .before .before .before .before .if1 .left) in
     let p = s .pre .0 .ready in
     let o = v .inv (p .start) (s .pre .0 .column-of) (p .ready) in
     rising (p .ready) (p .inside) o (k .ensures) lt
@@ -75,7 +75,7 @@ returns-2 c =
     let v = c .before .before .before .before .before .before .before .before .before .before .before .before .before .before .before .loop in
     let k = c .before .before .before .before .before .before .before .before .before .look in
     let z = c .before .before .rise-by in
-    let lt : k .result .gap < none = omega (arith, k .ensures .most, c .before .before .before .before .before .before .before .before .if1 .left) in
+    let lt : k .result .gap < no-gap = omega (arith, k .ensures .most, c .before .before .before .before .before .before .before .before .if1 .left) in
     let p = s .pre .0 .ready in
     let o = v .inv (p .start) (s .pre .0 .column-of) (p .ready) in
     record {
@@ -105,7 +105,7 @@ loop-less c =
     let v = c .before .before .before .before .before .before .before .before .before .before .before .before .before .before .before .before .loop in
     let k = c .before .before .before .before .before .before .before .before .before .before .look in
     let z = c .before .before .before .rise-by in
-    let lt : k .result .gap < none = omega (arith, k .ensures .most, c .before .before .before .before .before .before .before .before .before .if1 .left) in
+    let lt : k .result .gap < no-gap = omega (arith, k .ensures .most, c .before .before .before .before .before .before .before .before .before .if1 .left) in
     let p = s .pre .0 .ready in
     let o = v .inv (p .start) (s .pre .0 .column-of) (p .ready) in
     fewer (p .ready) (p .inside) o (k .ensures) lt (z .ensures) (omega (arith, c .before .if2 .left))
@@ -116,7 +116,7 @@ loop-again c =
     let v = c .before .before .before .before .before .before .before .before .before .before .before .before .before .before .before .before .loop in
     let k = c .before .before .before .before .before .before .before .before .before .before .look in
     let z = c .before .before .before .rise-by in
-    let lt : k .result .gap < none = omega (arith, k .ensures .most, c .before .before .before .before .before .before .before .before .before .if1 .left) in
+    let lt : k .result .gap < no-gap = omega (arith, k .ensures .most, c .before .before .before .before .before .before .before .before .before .if1 .left) in
     let p = s .pre .0 .ready in
     λ start columns r. joined r (p .inside) (v .inv start columns r) (k .ensures) lt (z .ensures) (omega (arith, c .before .if2 .left))
 

@@ -1,4 +1,4 @@
--- The rows of the tree and the reached columns are raised, one after the other, and the gaps lowered. Assumes nothing.
+-- The rows of the tree and the reached columns are raised, one after the other, and the gaps narrowed. Assumes nothing.
 use mathlib.Core.Path.{_≡_}
 use Prim.Native.Nat.{_-_, _≤_}
 use native.Mathlib.Omega.{arith}
@@ -74,14 +74,14 @@ mul-t19 c = omega arith
 element-set-from-heads : tie.Need-element-set-from-heads Inv-loop μ-loop
 element-set-from-heads c = omega arith
 
-mul-lowered : tie.Need-mul-lowered Inv-loop μ-loop
-mul-lowered c = omega arith
+mul-narrowed : tie.Need-mul-narrowed Inv-loop μ-loop
+mul-narrowed c = omega arith
 
-element-copy-out-lowered : tie.Need-element-copy-out-lowered Inv-loop μ-loop
-element-copy-out-lowered c = omega arith
+element-copy-out-narrowed : tie.Need-element-copy-out-narrowed Inv-loop μ-loop
+element-copy-out-narrowed c = omega arith
 
-lowered-requires : tie.Need-lowered-requires Inv-loop μ-loop
-lowered-requires c κs =
+narrowed-requires : tie.Need-narrowed-requires Inv-loop μ-loop
+narrowed-requires c κs =
     let s = c .before .before .before .before .before .before .before .before .before .before .before in
     rise-gap (c .before .before .before .before .before .before .before .before .before .loop .inv .1) (s .pre) (omega arith)
 
@@ -107,7 +107,7 @@ loop-again c =
       omega arith,
       rw (toZ-ofZ (sfits-of (l .ok)))
           (rise-step w (omega (arith, s .pre .small)) (c .before .before .before .before .before .before .share .ensures .0)
-          (rw (c .before .before .before .share2 .ensures .0) at (simp (toZ-ofZ f) at (l .ensures))) (c .lowered .ensures)),
+          (rw (c .before .before .before .share2 .ensures .0) at (simp (toZ-ofZ f) at (l .ensures))) (c .narrowed .ensures)),
     )
 
 returns-2 : tie.Need-returns-2 Inv-loop μ-loop
@@ -137,9 +137,9 @@ rise-by-spec =
     lift-requires
     mul-t19
     element-set-from-heads
-    mul-lowered
-    element-copy-out-lowered
-    lowered-requires
+    mul-narrowed
+    element-copy-out-narrowed
+    narrowed-requires
     mul-gaps
     element-write-gaps
     add-i

@@ -1,15 +1,18 @@
 -- The fall from a canon to the least canon from the floors. Assumes nothing.
 use native.Mathlib.Omega.{arith}
-use Rattle.orders.proofs.Flags.{unset, unset-less}
-use Rattle.lowering.proofs.Descent.{Going, going-start, going-open, going-spare, going-roomy, going-falling, going-step, going-end}
+use Rattle.orders.proofs.Flags.{unset, unset-fewer}
+use Rattle.orders.proofs.Stores.{put-flags}
+use Rattle.lowering.proofs.Descent.{Going, going-start, going-open, going-spare, going-under, going-falling, going-step, going-end}
 use Rattle.lowering.proofs.lower.Statement.{statement}
+use Rattle.theory.specs.Lists.{flags}
+use mathlib.Core.Bool.{true}
 use Rattle.lowering.proofs.lower.Tie as tie
 
 abbrev Inv-loop : tie.InvT-loop
 Inv-loop n table columns additions₀ least₀ settled₀ k₀ additions least settled k = Going table n columns additions₀ least₀ additions least settled k
 
 abbrev μ-loop : tie.MeasureT-loop
-μ-loop n table columns additions₀ least₀ settled₀ k₀ additions least settled k = unset n settled
+μ-loop n table columns additions₀ least₀ settled₀ k₀ additions least settled k = unset n (flags settled)
 
 least-slack-requires : tie.Need-least-slack-requires Inv-loop μ-loop
 least-slack-requires c κs = let g = c .before .before .before .pre in (g .square .small, g .not-below)
@@ -51,7 +54,7 @@ pulled-requires c κs =
     let g = c .before .before .before .before .before .before .before .before .pre in
     let l = c .before .before .before .loop in
     let h = c .before .before .loop-test .taken in
-    (g .square, h, going-roomy g (l .inv) h (c .lowered .result) (c .lowered .ensures) (l .k) h, g .of-maxima .transversal .inside)
+    (g .square, h, going-under g (l .inv) h (c .lowered .result) (c .lowered .ensures) (l .k) h, g .canon-by .of-maxima .transversal .inside)
 
 least-slack-requires-2 : tie.Need-least-slack-requires-2 Inv-loop μ-loop
 least-slack-requires-2 c κs =
@@ -68,7 +71,7 @@ loop-less c =
     let g = c .before .before .before .before .before .before .before .before .before .before .before .before .before .pre in
     let l = c .before .before .before .before .before .before .before .before .loop in
     let h = c .before .before .before .before .before .before .before .loop-test .taken in
-    unset-less _ _ _ h (omega (arith, l .inv .long, g .square .small)) (going-open g (l .inv) h)
+    omega (arith, unset-fewer _ h (going-open g (l .inv) h) (put-flags (l .settled) (l .k) true (omega (arith, l .inv .long, g .square .small))))
 
 loop-again : tie.Need-loop-again Inv-loop μ-loop
 loop-again c =

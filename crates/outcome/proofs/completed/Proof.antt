@@ -2,28 +2,25 @@
 use borrow.Author.Needs.{sfits-of}
 use mir.Syntax.{w32}
 use mir.Facts.{toZ-ofZ}
-use Rattle.outcome.proofs.Parts.{occupied, completed-whole}
+use Rattle.outcome.proofs.Parts.{rows-hold, completed-whole}
 use Rattle.outcome.proofs.completed.Statement.{statement}
 use Rattle.outcome.proofs.completed.Tie as tie
 
 heads-of-requires : tie.Need-heads-of-requires
-heads-of-requires c κs = let g = c .before .pre in (g .square, g .roomy, occupied (g .of-maxima) (g .marks))
+heads-of-requires c κs = let g = c .before .before .pre in (g .0, g .1 .under-ceiling, rows-hold (g .1) (g .2))
 
 first-stars-requires : tie.Need-first-stars-requires
 first-stars-requires c κs =
-    let g = c .before .before .before .before .pre in
-    record {
-      given = record { square = g .square; roomy = g .roomy; heads = c .before .before .heads-of .ensures };
-      marked = record { marks = g .marks; of-maxima = g .of-maxima };
-    }
+    let g = c .before .before .before .before .before .pre in
+    (record { square = g .0; under-ceiling = g .1 .under-ceiling; heads = c .before .before .heads-of .ensures }, g .1, g .2)
 
 sum-of-requires : tie.Need-sum-of-requires
 sum-of-requires c κs =
-    (c .before .before .before .before .before .before .pre .square, c .before .first-stars .ensures .of-maxima .transversal .inside)
+    (c .before .before .before .before .before .before .before .pre .0, c .before .first-stars .ensures .of-maxima .transversal .inside)
 
 numbered-requires : tie.Need-numbered-requires
 numbered-requires c κs = (
-  c .before .before .before .before .before .before .before .before .pre .square .small,
+  c .before .before .before .before .before .before .before .before .before .pre .0 .small,
   c .before .before .before .first-stars .ensures .of-maxima .transversal .inside,
 )
 

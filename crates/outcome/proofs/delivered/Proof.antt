@@ -1,13 +1,11 @@
 -- The whole answer is worked out and copied out. Assumes nothing.
-use mathlib.Core.Path.{_≡_}
 use borrow.Author.Needs.{needs}
-use lib.ListN.{length}
 use mir.Syntax.{w32}
 use mir.Val.{SFits}
 use mir.Facts.{toZ-ofZ}
-use Rattle.theory.specs.Limits.{rows}
 use Rattle.outcome.proofs.Delivery.{delivery}
 use Rattle.outcome.proofs.delivered.Statement.{statement}
+use Rattle.orders.specs.Held.{Long}
 use Rattle.outcome.proofs.delivered.Tie as tie
 
 completed-requires : tie.Need-completed-requires
@@ -29,7 +27,7 @@ same-length-3 c = search needs
 sum-fits : (c : tie.After-completed) → SFits w32 (c .completed .result .sum)
 sum-fits c = search needs
 
-wide : (c : tie.After-completed) → (length (c .completed .result .additions) ≡ rows) × (length (c .completed .result .stars) ≡ rows) × (length (c .completed .result .heads) ≡ rows)
+wide : (c : tie.After-completed) → Long (c .completed .result .additions) × Long (c .completed .result .stars) × Long (c .completed .result .heads)
 wide c = search needs
 
 returns : tie.Need-returns
@@ -37,7 +35,7 @@ returns c =
     let b = c .before .before .before .before .before in
     let d = b .before .before .before .before .before in
     let p = d .before .before .before .pre in
-    rw (toZ-ofZ (sum-fits d)) (delivery (p .0) (p .1) (wide d .0) (wide d .1) (wide d .2) (d .completed .ensures) (b .hand-out .ensures))
+    rw (toZ-ofZ (sum-fits d)) (delivery (p .0 .small) (p .3) (wide d .0) (wide d .1) (wide d .2) (d .completed .ensures) (b .hand-out .ensures))
 
 pub delivered-spec : {M : Type 1} → statement M
 delivered-spec = tie.close (tie.spec completed-requires hand-out-requires same-length same-length-2 same-length-3 returns)

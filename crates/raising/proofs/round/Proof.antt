@@ -9,8 +9,9 @@ use Rattle.theory.specs.Limits.{rows, order}
 use Rattle.theory.specs.Lists.{nums}
 use Rattle.theory.specs.Table.{entry}
 use Rattle.orders.proofs.Places.{within}
+use Rattle.orders.proofs.Stores.{put-nums}
 use Rattle.raising.specs.Rounds.{Round}
-use Rattle.raising.proofs.Steps.{round-none, round-roomy, put-set, round-raised, round-kept}
+use Rattle.raising.proofs.Steps.{round-none, round-under, round-raised, round-kept}
 use Rattle.raising.proofs.round.Statement.{statement}
 use Rattle.raising.proofs.round.Tie as tie
 
@@ -34,7 +35,14 @@ wanted-requires c κs =
     let s = c .before .before .before .before in
     let l = c .before .before .before .loop in
     let hi : l .i < s .args .n = search needs in
-    (s .pre .0, s .pre .1, round-roomy (l .inv .2) (l .inv .0) (s .pre .3), s .pre .2 .inside (l .i) hi, hi, s .pre .2 .present (l .i) hi)
+    record {
+      square = s .pre .square;
+      entries = s .pre .entries;
+      under-ceiling = round-under (l .inv .2) (l .inv .0) (s .pre .ample);
+      inside = s .pre .transversal .inside (l .i) hi;
+      row = hi;
+      present = s .pre .transversal .present (l .i) hi;
+    }
 
 mul-if1 : tie.Need-mul-if1 Inv-loop μ-loop
 mul-if1 c = search needs
@@ -59,17 +67,17 @@ loop-again c =
     let s = c .before .before .before .before .before .before in
     let l = c .before .before .before .before .before .loop in
     let hi : l .i < s .args .n = search needs in
-    let w = within order (s .args .n) (s .args .table .now) (s .pre .0 .square) (s .pre .1) in
+    let w = within order (s .args .n) (s .args .table .now) (s .pre .square .square) (s .pre .entries) in
     let p = c .before .wanted in
     elim (c .if1 .came) [
       | inl v ↦ (
         search needs,
         rw (v .1) (search needs),
         rw (v .1, v .2)
-            (round-raised order _ _ _ _ _ (s .pre .2) w hi (p .result) (p .ensures) (l .inv .2)
-            (put-set _ (l .next) _ _ (omega (arith, l .inv .1, s .pre .0 .small))) (v .0 .taken)),
+            (round-raised order _ _ _ _ _ (s .pre .transversal) w hi (p .result) (p .ensures) (l .inv .2)
+            (put-nums (l .next) _ _ (omega (arith, l .inv .1, s .pre .square .small))) (v .0 .taken)),
       )
-      | inr v ↦ (search needs, rw (v .1) (l .inv .1), rw (v .1, v .2) (round-kept order _ _ _ _ _ (s .pre .2) w hi (p .result) (p .ensures) (l .inv .2) (v .0 .left)))
+      | inr v ↦ (search needs, rw (v .1) (l .inv .1), rw (v .1, v .2) (round-kept order _ _ _ _ _ (s .pre .transversal) w hi (p .result) (p .ensures) (l .inv .2) (v .0 .left)))
     ]
 
 returns : tie.Need-returns Inv-loop μ-loop

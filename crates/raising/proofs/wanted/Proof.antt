@@ -6,7 +6,7 @@ use mir.Val.{SFits}
 use mir.Facts.{toZ-ofZ}
 use Rattle.theory.specs.Limits.{order}
 use Rattle.orders.proofs.Places.{within, top-head}
-use Rattle.raising.proofs.Heights.{head-above, head-roomy}
+use Rattle.raising.proofs.Heights.{head-above, head-under}
 use Rattle.raising.proofs.wanted.Statement.{statement}
 use Rattle.raising.proofs.wanted.Tie as tie
 
@@ -21,10 +21,10 @@ excess-requires c κs =
     let p = c .before .before .place in
     let s = c .before .before .before in
     let f : SFits w32 (c .before .head .result .head) = search needs in
-    let h = top-head (s .pre .4) (s .pre .5) (c .before .head .ensures) in
+    let h = top-head (s .pre .row) (s .pre .present) (c .before .head .ensures) in
     rw (toZ-ofZ f, toZ-ofZ {w = w16} {z = p .result} (sfits-of (p .ok)), p .ensures) (
-      head-above _ _ _ _ h (s .pre .4) (s .pre .5),
-      head-roomy _ _ _ _ {limit = order} (omega arith) (s .pre .3) (within order (s .args .n) (s .args .table .now) (s .pre .0 .square) (s .pre .1)) (s .pre .2) h,
+      head-above _ _ _ _ h (s .pre .row) (s .pre .present),
+      head-under _ _ _ _ {limit = order} (omega arith) (s .pre .inside) (within order (s .args .n) (s .args .table .now) (s .pre .square .square) (s .pre .entries)) (s .pre .under-ceiling) h,
     )
 
 returns : tie.Need-returns
@@ -33,7 +33,7 @@ returns c =
     let s = c .before .before .before .before in
     let f : SFits w32 (c .before .before .head .result .head) = search needs in
     let e = rw (p .ensures) at (simp (toZ-ofZ {w = w16} {z = p .result} (sfits-of (p .ok)), toZ-ofZ f) at (c .excess .ensures)) in
-    rw e (top-head (s .pre .4) (s .pre .5) (c .before .before .head .ensures))
+    rw e (top-head (s .pre .row) (s .pre .present) (c .before .before .head .ensures))
 
 pub wanted-spec : {M : Type 1} → statement M
 wanted-spec = tie.close (tie.spec place-requires head-requires excess-requires returns)

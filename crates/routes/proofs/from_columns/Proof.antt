@@ -9,7 +9,7 @@ all-present-requires c κs = (c .pre .square, c .pre .inside)
 climb-requires : tie.Need-climb-requires
 climb-requires c κs =
     let g = c .before .before .pre in
-    (g .square, g .entries, transversal-of g (c .before .all-present .ensures .holds (c .if1 .taken)))
+    (from-zeros g, transversal-of g (c .before .all-present .ensures .holds (c .if1 .taken)))
 
 returns : tie.Need-returns
 returns c = raised-ended (c .before .before .before .before .before .pre) (c .before .before .climb .ensures) (c .if2 .taken)
@@ -31,7 +31,7 @@ returns-3 : tie.Need-returns-3
 returns-3 c =
     let g = c .before .before .before .before .pre in
     raised-failed g _ (c .before .grow2 .ensures)
-    (λ s m. absent-place g (c .before .before .before .all-present .ensures .fails (c .before .before .if1 .left)))
+    (λ l τ s m. absent-place g (c .before .before .before .all-present .ensures .fails (c .before .before .if1 .left)))
 
 pub from-columns-spec : {M : Type 1} → statement M
 from-columns-spec =

@@ -1,14 +1,14 @@
 -- Row i takes the first column that the rows before it leave to it, and the marks are shifted along the way. Assumes nothing.
 use native.Mathlib.Omega.{arith}
 use Rattle.theory.specs.Lists.{nums}
-use Rattle.stars.specs.Shift.{marking}
+use Rattle.stars.specs.Shift.{mark-arrays}
 use Rattle.stars.proofs.Moving.{ShiftingIn, unsearched, chosen-below, move-start, move-less, move-next, move-end}
 use Rattle.stars.proofs.shift.Statement.{statement}
 use Rattle.stars.proofs.shift.Tie as tie
 
 abbrev Inv-loop : tie.InvT-loop
 Inv-loop table n additions heads i rows₀ columns₀ next step j k₀ m₀ rows columns k m =
-    ShiftingIn table n additions i j (marking rows₀ columns₀) step (marking rows columns) k m
+    ShiftingIn table n additions i j (mark-arrays rows₀ columns₀) step (mark-arrays rows columns) k m
 
 abbrev μ-loop : tie.MeasureT-loop
 μ-loop table n additions heads i rows₀ columns₀ next step j k₀ m₀ rows columns k m = nums step m
@@ -16,34 +16,34 @@ abbrev μ-loop : tie.MeasureT-loop
 find-ways-requires : tie.Need-find-ways-requires Inv-loop μ-loop
 find-ways-requires c κs =
     let p = c .before .before .before .pre in
-    (p .0, record { row = p .2; column = p .1 .marked .marks .column }, unsearched (p .0 .square .small))
+    (p .0, record { row = p .2; column = p .1 .marks .column }, unsearched (p .0 .square .small))
 
-mul-least : tie.Need-mul-least Inv-loop μ-loop
-mul-least c = omega (arith, c .before .before .before .before .before .before .pre .0 .square .small)
+mul-least-column : tie.Need-mul-least-column Inv-loop μ-loop
+mul-least-column c = omega (arith, c .before .before .before .before .before .before .pre .0 .square .small)
 
-element-copy-out-least : tie.Need-element-copy-out-least Inv-loop μ-loop
-element-copy-out-least c = omega (arith, c .before .before .before .before .before .before .pre .0 .square .small)
+element-copy-out-least-column : tie.Need-element-copy-out-least-column Inv-loop μ-loop
+element-copy-out-least-column c = omega (arith, c .before .before .before .before .before .before .pre .0 .square .small)
 
-least-requires : tie.Need-least-requires Inv-loop μ-loop
-least-requires c κs =
+least-column-requires : tie.Need-least-column-requires Inv-loop μ-loop
+least-column-requires c κs =
     let s = c .before .before .before .before .before .before .before in
     let p = s .pre in
-    (p .0, p .2, p .1 .marked .marks .column (s .args .i) (p .2), p .1 .marked .marks .row)
+    (p .0, p .2, p .1 .marks .column (s .args .i) (p .2), p .1 .marks .row)
 
 mul-m : tie.Need-mul-m Inv-loop μ-loop
 mul-m c =
     let p = c .before .before .before .before .before .before .before .before .pre in
-    omega (arith, p .0 .square .small, chosen-below (p .0 .square .small) (p .1) (p .2) (c .before .before .before .before .find-ways .ensures) (c .least .ensures))
+    omega (arith, p .0 .square .small, chosen-below (p .0 .square .small) (p .1) (p .2) (c .before .before .before .before .find-ways .ensures) (c .least-column .ensures))
 
 element-copy-out-m : tie.Need-element-copy-out-m Inv-loop μ-loop
 element-copy-out-m c =
     let p = c .before .before .before .before .before .before .before .before .pre in
-    omega (arith, p .0 .square .small, chosen-below (p .0 .square .small) (p .1) (p .2) (c .before .before .before .before .find-ways .ensures) (c .least .ensures))
+    omega (arith, p .0 .square .small, chosen-below (p .0 .square .small) (p .1) (p .2) (c .before .before .before .before .find-ways .ensures) (c .least-column .ensures))
 
 loop-holds : tie.Need-loop-holds Inv-loop μ-loop
 loop-holds c =
     let p = c .before .before .before .before .before .before .before .before .before .pre in
-    move-start (p .0 .square .small) (p .1) (p .2) (c .before .before .before .before .before .find-ways .ensures) (c .before .least .ensures)
+    move-start (p .0 .square .small) (p .1) (p .2) (c .before .before .before .before .before .find-ways .ensures) (c .before .least-column .ensures)
 
 mul-loop : tie.Need-mul-loop Inv-loop μ-loop
 mul-loop c = omega (arith, c .before .before .before .before .before .before .before .before .before .before .pre .0 .square .small, c .loop .inv .shift .goal)
@@ -82,21 +82,21 @@ loop-less : tie.Need-loop-less Inv-loop μ-loop
 loop-less c =
     let p = c .before .before .before .before .before .before .before .before .before .before .before .before .before .before .pre in
     let ways = c .before .before .before .before .before .before .before .before .before .before .find-ways .ensures in
-    let chosen = c .before .before .before .before .before .before .least .ensures in
+    let chosen = c .before .before .before .before .before .before .least-column .ensures in
     move-less (p .0 .square .small) (p .1) (p .2) ways chosen (c .before .before .before .before .loop .inv) (c .before .before .before .loop-test .taken)
 
 loop-again : tie.Need-loop-again Inv-loop μ-loop
 loop-again c =
     let p = c .before .before .before .before .before .before .before .before .before .before .before .before .before .before .pre in
     let ways = c .before .before .before .before .before .before .before .before .before .before .find-ways .ensures in
-    let chosen = c .before .before .before .before .before .before .least .ensures in
+    let chosen = c .before .before .before .before .before .before .least-column .ensures in
     move-next (p .0 .square .small) (p .1) (p .2) ways chosen (c .before .before .before .before .loop .inv) (c .before .before .before .loop-test .taken) (c .swap .ensures)
 
 returns : tie.Need-returns Inv-loop μ-loop
 returns c =
     let p = c .before .before .before .before .before .before .before .before .before .before .before .pre in
     let ways = c .before .before .before .before .before .before .before .find-ways .ensures in
-    let chosen = c .before .before .before .least .ensures in
+    let chosen = c .before .before .before .least-column .ensures in
     move-end (p .0 .square .small) (p .1) (p .2) ways chosen (c .before .loop .inv) (c .loop-test .left)
 
 pub shift-spec : {M : Type 1} → statement M
@@ -106,9 +106,9 @@ shift-spec =
     Inv-loop
     μ-loop
     find-ways-requires
-    mul-least
-    element-copy-out-least
-    least-requires
+    mul-least-column
+    element-copy-out-least-column
+    least-column-requires
     mul-m
     element-copy-out-m
     loop-holds

@@ -24,7 +24,7 @@ element-copy-out-tight-2 : tie.Need-element-copy-out-tight-2
 element-copy-out-tight-2 c = search needs
 
 tight-requires : tie.Need-tight-requires
-tight-requires c κs = let s = c .before .before .before in s .pre .0 .roomy (s .args .i) (s .pre .1)
+tight-requires c κs = let s = c .before .before .before in s .pre .0 .under-ceiling (s .args .i) (s .pre .1)
 
 returns : tie.Need-returns
 returns c =

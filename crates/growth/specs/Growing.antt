@@ -9,13 +9,13 @@ use lib.Signed.{_≤ℤ_}
 use Rattle.theory.specs.Limits.{rows, order, handed}
 use Rattle.theory.specs.Lists.{nums, ints}
 use Rattle.theory.specs.Table.{Present, entry, WithinLimit}
-use Rattle.theory.specs.Canon.{Transversal, raised, Canon, AtMost, Head, Heads}
+use Rattle.theory.specs.Canon.{AtMost, NoTransversal, raised, Canon, Head, Heads}
 use Rattle.orders.specs.Places.{Square}
-use Rattle.growth.specs.Steps.{Long}
+use Rattle.orders.specs.Held.{Long}
 
 -- what one insertion adds at most to the largest addition
-abbrev pub climb : ℕ
-climb = 4 * (order * rows) + 2 * order
+abbrev pub insertion-rise : ℕ
+insertion-rise = 4 * (order * rows) + 2 * order
 
 module _ (n : ℕ) (a : ℕ → ℕ → ℤ) where
   -- a present order that, raised, is the head of its column
@@ -36,7 +36,7 @@ module _ (n : ℕ) (a : ℕ → ℕ → ℤ) where
 
   -- Marks, heads that no raised order exceeds and that are still the first ones in the unmarked columns, and additions that are
   -- nowhere below the start and nowhere above a canon from it.
-  pub record Standing (start : ℕ → ℕ) (s : ℕ) (l : ℕ → ℕ) (h : ℕ → ℤ) (ρ κ : ℕ → ℕ) : Type 0 where
+  pub record Growing (start : ℕ → ℕ) (s : ℕ) (l : ℕ → ℕ) (h : ℕ → ℤ) (ρ κ : ℕ → ℕ) : Type 0 where
     pub marking : Marking s l h ρ κ
     pub under : (i j : ℕ) → i < n → j < n → Present (a i j) → raised n a l i j ≤ℤ h j
     pub first : (j : ℕ) → j < n → n ≤ ρ j → Head n a start j (h j)
@@ -80,8 +80,8 @@ pub record Ready (t : List ℤ) (n : ℕ) (start : ℕ → ℕ) (s : ℕ) (l : L
   pub square : Square t n
   pub orders : WithinLimit order n (entry t n)
   pub handed-in : (i : ℕ) → i < n → start i ≤ handed
-  pub standing : Standing n (entry t n) start s (nums l) (ints h) (nums row-of) (nums column-of)
-  pub top : (i : ℕ) → i < n → nums l i ≤ handed + s * climb
+  pub growing : Growing n (entry t n) start s (nums l) (ints h) (nums row-of) (nums column-of)
+  pub top : (i : ℕ) → i < n → nums l i ≤ handed + s * insertion-rise
 
 -- ready to insert row s, from some start
 pub record SomeReady (t : List ℤ) (n s : ℕ) (l : List ℕ) (h : List ℤ) (row-of column-of : List ℕ) : Type 0 where
@@ -97,25 +97,25 @@ pub record SomeColumns (t : List ℤ) (n s : ℕ) (l : List ℕ) (h : List ℤ) 
 
 -- the additions and the heads have risen so far that there is a way back from the column `end` to row s
 pub record Meeting (t : List ℤ) (n : ℕ) (start : ℕ → ℕ) (s : ℕ) (l : List ℕ) (h : List ℤ) (row-of column-of givers : List ℕ) (end : ℕ) : Type 0 where
-  pub standing : Standing n (entry t n) start s (nums l) (ints h) (nums row-of) (nums column-of)
+  pub growing : Growing n (entry t n) start s (nums l) (ints h) (nums row-of) (nums column-of)
   pub way : WayBack n (entry t n) s (nums l) (ints h) (nums row-of) (nums column-of) (nums givers) end
-  pub top : (i : ℕ) → i < n → nums l i ≤ handed + (s + 1) * climb
+  pub top : (i : ℕ) → i < n → nums l i ≤ handed + (s + 1) * insertion-rise
 
 -- such a column is met, from whatever start and with whatever columns of the rows; or there is no complete transversal
 pub record Met (t : List ℤ) (n s : ℕ) (l : List ℕ) (h : List ℤ) (row-of : List ℕ) (end : ℕ) (l′ : List ℕ) (h′ : List ℤ) (givers : List ℕ) : Type 0 where
   pub meets : end < n → (start : ℕ → ℕ) (column-of : List ℕ) → Ready t n start s l h row-of column-of
       → Meeting t n start s l′ h′ row-of column-of givers end
-  pub none : n ≤ end → (σ : ℕ → ℕ) → Transversal n (entry t n) σ → ⊥
+  pub none : n ≤ end → NoTransversal n (entry t n)
   pub long : Long l′ × Long h′
 
 -- row s is inserted, from whatever start; or there is no complete transversal
 pub record Inserted (t : List ℤ) (n s : ℕ) (l : List ℕ) (h : List ℤ) (row-of column-of : List ℕ) (found : Bool) (l′ : List ℕ) (h′ : List ℤ) (row-of′ column-of′ : List ℕ) : Type 0 where
   pub ready : found ≡ true → (start : ℕ → ℕ) → Ready t n start s l h row-of column-of → Ready t n start (s + 1) l′ h′ row-of′ column-of′
-  pub none : found ≡ false → (σ : ℕ → ℕ) → Transversal n (entry t n) σ → ⊥
+  pub none : found ≡ false → NoTransversal n (entry t n)
   pub long : Long l′ × Long h′ × Long row-of′ × Long column-of′
 
 -- the heads of all columns under the start; or a column has no order, and so there is no complete transversal
 pub record FirstOf (t : List ℤ) (n : ℕ) (start : List ℕ) (found : Bool) (h : List ℤ) : Type 0 where
   pub heads : found ≡ true → Heads n (entry t n) (nums start) (ints h)
-  pub none : found ≡ false → (σ : ℕ → ℕ) → Transversal n (entry t n) σ → ⊥
+  pub none : found ≡ false → NoTransversal n (entry t n)
   pub long : Long h

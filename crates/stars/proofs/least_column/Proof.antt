@@ -6,8 +6,8 @@ use borrow.Author.Count.{below-more}
 use Rattle.theory.specs.Lists.{nums}
 use Rattle.theory.specs.Table.{entry}
 use Rattle.theory.specs.Canon.{Maximum}
-use Rattle.stars.proofs.least.Statement.{statement}
-use Rattle.stars.proofs.least.Tie as tie
+use Rattle.stars.proofs.least_column.Statement.{statement}
+use Rattle.stars.proofs.least_column.Tie as tie
 
 abbrev Inv-loop : tie.InvT-loop
 Inv-loop table n additions heads rows eligible i own j₀ j =
@@ -69,8 +69,8 @@ returns-2 c =
       none = λ j h. c .before .loop .inv .1 j (omega arith);
     }
 
-pub least-spec : {M : Type 1} → statement M
-least-spec =
+pub least-column-spec : {M : Type 1} → statement M
+least-column-spec =
     tie.close
     (tie.spec
     Inv-loop

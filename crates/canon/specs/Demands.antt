@@ -12,10 +12,10 @@ use lib.Signed.{_≤ℤ_}
 use Rattle.theory.specs.Limits.{rows, order, handed}
 use Rattle.theory.specs.Lists.{nums, ints, columns, StarList}
 use Rattle.theory.specs.Table.{entry, Entries}
-use Rattle.theory.specs.Canon.{SomeTransversal, Canon, Simplest, Heads, Stars, Balance}
+use Rattle.theory.specs.Canon.{SomeTransversal, NoTransversal, Canon, Simplest, Heads, Stars, Balance}
 use Rattle.theory.specs.Cases.{Handed, nothing, additions, stars, Leads}
 use Rattle.orders.specs.Refusals.{Test, Applies, First, Among, due, Proper, gives, refuses}
-use Rattle.handed.specs.Conditions.{TooLarge, WrongStars, NoTransversal, NoCanon, NotGreatest, table-tests, canon-tests, star-tests}
+use Rattle.handed.specs.Conditions.{TooLarge, WrongStars, NoCanon, NotGreatest, table-tests, canon-tests, star-tests}
 use Rattle.canon.specs.Answers.{said, judged}
 use Rattle.canon.specs.Promises.{Solves, FromCanon, FromStars, Judges}
 use Rattle.canon.specs.declared.Answer.{Answer}
@@ -127,11 +127,11 @@ pub record Demand2 (n : ℕ) (t : List ℤ) : Type 0 where
 -- exactly when each of its orders, with its row's addition, is its column's maximum."
 pub record Demand3 (n : ℕ) (t : List ℤ) : Type 0 where
   -- "refused .. when": by 6, and the lent buffers hold what they held
-  pub refused-if-none : (b b′ : Buffers) (r : Answer) → WellFormed n t → Wanted n b → Route n t nothing b r b′ → NoTransversal n t
+  pub refused-if-none : (b b′ : Buffers) (r : Answer) → WellFormed n t → Wanted n b → Route n t nothing b r b′ → NoTransversal n (entry t n)
       → (said r ≡ refuses 6 []) × (b′ ≡ b)
   -- "exactly"
   pub none-if-refused : (b b′ : Buffers) (r : Answer) (k : ℕ) (values : List ℕ) → WellFormed n t → Wanted n b → Route n t nothing b r b′
-      → said r ≡ refuses k values → NoTransversal n t
+      → said r ≡ refuses k values → NoTransversal n (entry t n)
   -- "Otherwise": a table with a complete transversal is answered, and no other is
   pub answered-if-some : (b b′ : Buffers) (r : Answer) → WellFormed n t → Wanted n b → Route n t nothing b r b′ → SomeTransversal n (entry t n)
       → (s : ℤ) × (said r ≡ gives s)

@@ -10,7 +10,7 @@ use lib.ListN.{length, getD}
 use Rattle.theory.specs.Limits.{rows, order, handed}
 use Rattle.theory.specs.Lists.{nums, columns}
 use Rattle.theory.specs.Table.{Present, Order, entry}
-use Rattle.theory.specs.Canon.{Transversal, Canon, Misplaced}
+use Rattle.theory.specs.Canon.{NoTransversal, Canon, Misplaced}
 use Rattle.orders.specs.Refusals.{Test, _given-when_, Slice, _wanted_, WrongLength}
 
 -- 1: "N is 0 or above 32"
@@ -45,9 +45,7 @@ pub data WrongStars (n : ℕ) (s : List ℕ) : Type 0 where
   over-size : (i : ℕ) → i < length s → n < nums s i → WrongStars n s
   twice : (i k : ℕ) → i < k → k < length s → nums s i ≡ nums s k → WrongStars n s
 
--- 6: "no complete transversal exists"
-abbrev pub NoTransversal : ℕ → List ℤ → Type 0
-NoTransversal n t = (σ : ℕ → ℕ) → Transversal n (entry t n) σ → ⊥
+-- 6: "no complete transversal exists": `NoTransversal` of the theory
 
 -- 7: "additions handed in are no canon"
 abbrev pub NoCanon : ℕ → List ℤ → List ℕ → Type 0
@@ -63,21 +61,21 @@ basic n t ks more = 1 given-when OutOfSize n ∷ 2 given-when WrongLength (slice
 
 -- route 1
 abbrev pub table-more : ℕ → List ℤ → List Test
-table-more n t = 6 given-when NoTransversal n t ∷ []
+table-more n t = 6 given-when NoTransversal n (entry t n) ∷ []
 
 abbrev pub table-tests : ℕ → List ℤ → List ℕ → List Test
 table-tests n t ks = basic n t ks (table-more n t)
 
 -- route 2 and the yes-or-no: "never give 5 or 8"
 abbrev pub canon-more : ℕ → List ℤ → List ℕ → List Test
-canon-more n t given = 4 given-when TooLarge given ∷ 6 given-when NoTransversal n t ∷ 7 given-when NoCanon n t given ∷ []
+canon-more n t given = 4 given-when TooLarge given ∷ 6 given-when NoTransversal n (entry t n) ∷ 7 given-when NoCanon n t given ∷ []
 
 abbrev pub canon-tests : ℕ → List ℤ → List ℕ → List ℕ → List Test
 canon-tests n t given ks = basic n t ks (canon-more n t given)
 
 -- route 3: "never gives 4 or 7"
 abbrev pub star-more : ℕ → List ℤ → List ℕ → List Test
-star-more n t given = 5 given-when WrongStars n given ∷ 6 given-when NoTransversal n t ∷ 8 given-when NotGreatest n t given ∷ []
+star-more n t given = 5 given-when WrongStars n given ∷ 6 given-when NoTransversal n (entry t n) ∷ 8 given-when NotGreatest n t given ∷ []
 
 abbrev pub star-tests : ℕ → List ℤ → List ℕ → List ℕ → List Test
 star-tests n t given ks = basic n t ks (star-more n t given)

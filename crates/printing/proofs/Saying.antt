@@ -11,11 +11,11 @@ use lib.Seq.{take-at}
 use Rattle.theory.specs.Limits.{rows}
 use Rattle.theory.specs.Lists.{nums, ints, columns, StarList}
 use Rattle.theory.specs.Table.{entry}
-use Rattle.theory.specs.Canon.{Solution}
+use Rattle.theory.specs.Canon.{NoTransversal, Solution}
 use Rattle.orders.specs.declared.Refusal.{Refusal}
 use Rattle.orders.specs.Refusals.{numberOf, valuesOf, First, Said, gives, refuses, refusal}
 use Rattle.orders.proofs.Refusals.{given-once, not-both, right-not-wrong}
-use Rattle.handed.specs.Conditions.{slices, NoTransversal, table-tests}
+use Rattle.handed.specs.Conditions.{slices, table-tests}
 use Rattle.handed.proofs.Basics.{in-size, entries-right}
 use Rattle.canon.specs.Answers.{said}
 use Rattle.canon.specs.Promises.{Solves, refused, answered}
@@ -44,7 +44,7 @@ figures a s z v x = record { adds = a; stars = s; heads = z; sum = v; index = x 
 
 -- A table that was read and slices of its size: only refusal 6 is left to the solver.
 module _ (n : ℕ) (t : List ℤ) (h : Tabled n t) (a s : List ℕ) (z : List ℤ) (al : length a ≡ n) (sl : length s ≡ n) (zl : length z ≡ n) where
-  only-six : (k : ℕ) → First (table-tests n t (length a ∷ length s ∷ length z ∷ [])) k → (k ≡ 6) × NoTransversal n t
+  only-six : (k : ℕ) → First (table-tests n t (length a ∷ length s ∷ length z ∷ [])) k → (k ≡ 6) × NoTransversal n (entry t n)
   only-six k (inl l) = absurd (in-size (λ z. omega (arith, h .some)) (h .few) (l .0))
   only-six k (inr (p, inl l)) = absurd (right-not-wrong (slices n t (length a ∷ length s ∷ length z ∷ [])) (h .square, (al, (sl, (zl, tt)))) (l .0))
   only-six k (inr (p, inr (q, inl l))) = absurd (entries-right (h .entries-stand) (l .0))

@@ -49,7 +49,7 @@ figures-once n t f g p q =
     ∙ ap (λ y. record { adds = g .adds; stars = g .stars; heads = g .heads; sum = g .sum; index = y }) x
 
 -- a table with figures has a complete transversal
-some-transversal : {X : Type 0} (n : ℕ) (t : List ℤ) (f : Figures) → FiguresOf n t f → Rattle.handed.specs.Conditions.NoTransversal n t → X
+some-transversal : {X : Type 0} (n : ℕ) (t : List ℤ) (f : Figures) → FiguresOf n t f → Rattle.theory.specs.Canon.NoTransversal n (Rattle.theory.specs.Table.entry t n) → X
 some-transversal n t f p none = absurd (none (columns (f .stars)) (p .solution .stars .of-maxima .transversal))
 
 table-once : (n : ℕ) (t : List ℤ) (a b : Said Figures) → TableSays n t a → TableSays n t b → a ≡ b

@@ -6,9 +6,8 @@ use lib.IntN.{ℤ}
 use lib.ListN.{length, take}
 use Rattle.theory.specs.Lists.{nums, ints, columns, StarList}
 use Rattle.theory.specs.Table.{entry}
-use Rattle.theory.specs.Canon.{Solution, Index}
+use Rattle.theory.specs.Canon.{NoTransversal, Solution, Index}
 use Rattle.orders.specs.Refusals.{Said, gives, refuses, refusal}
-use Rattle.handed.specs.Conditions.{NoTransversal}
 use Rattle.sheet.specs.Text.{over}
 use Rattle.sheet.specs.Sheet.{Labelled}
 use Rattle.sheet.specs.Reading.{start, good, Reads, TooLong, WrongLine}
@@ -33,7 +32,7 @@ pub record FiguresOf (n : ℕ) (t : List ℤ) (f : Figures) : Type 0 where
 
 -- what the answer of a table says: its figures, or that "no complete transversal exists"
 pub data TableSays (n : ℕ) (t : List ℤ) (a : Said Figures) : Type 0 where
-  no-transversal : NoTransversal n t → a ≡ refuses 6 [] → TableSays n t a
+  no-transversal : NoTransversal n (entry t n) → a ≡ refuses 6 [] → TableSays n t a
   solved : (f : Figures) → FiguresOf n t f → a ≡ gives f → TableSays n t a
 
 -- what the answer of a sheet says: that "a sheet is longer than 12,288 bytes", that "a line of a sheet is wrong", or what the

@@ -6,6 +6,8 @@ use mathlib.Core.Logic.{_≢_}
 use borrow.Author.Count.{below-more}
 use lib.ListN.{length, getD}
 use Rattle.sheet.specs.Text.{feed}
+use Rattle.fields.proofs.Answers.{count-found, count-none}
+use Rattle.fields.proofs.LineLaws.{line-found, line-none}
 use Rattle.fields.proofs.line_end.Statement.{statement}
 use Rattle.fields.proofs.line_end.Tie as tie
 
@@ -22,7 +24,8 @@ shared-slice-read-if1 : tie.Need-shared-slice-read-if1 Inv-loop μ-loop
 shared-slice-read-if1 c = search needs
 
 returns : tie.Need-returns Inv-loop μ-loop
-returns c = record { inside = omega arith; before = c .before .before .before .loop .inv .1; here = λ h. c .if1 .taken }
+returns c =
+    let l = c .before .before .before .loop in count-found (l .i) (line-found _ (l .i) (l .inv .1) (omega arith) (c .if1 .taken))
 
 add-i : tie.Need-add-i Inv-loop μ-loop
 add-i c = search needs
@@ -34,7 +37,7 @@ loop-again : tie.Need-loop-again Inv-loop μ-loop
 loop-again c = (omega arith, below-more _ _ (c .before .before .before .loop .inv .1) (c .if1 .left))
 
 returns-2 : tie.Need-returns-2 Inv-loop μ-loop
-returns-2 c = record { inside = omega arith; before = c .before .loop .inv .1; here = λ h. absurd (omega arith) }
+returns-2 c = let l = c .before .loop in count-none (line-none _ (l .i) (l .inv .1) (omega arith))
 
 pub line-end-spec : {M : Type 1} → statement M
 line-end-spec =

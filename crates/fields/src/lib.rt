@@ -1,6 +1,6 @@
 ghost use Rattle.orders.specs.Tested.{Tells};
 ghost use Rattle.sheet.proofs.Numbers.{Digit};
-ghost use Rattle.fields.specs.Fields.{LineIs, StartsWith, Readable, FrontIs, FieldIs, NumberIs, SignedIs, CountAfter, FrontOf, CountOf, SignedOf};
+ghost use Rattle.fields.specs.Fields.{BeforeFeed, LineIs, StartsWith, Readable, FrontIs, FieldIs, NumberIs, SignedIs, CountAfter, FrontOf, CountOf, SignedOf};
 ghost use Prim.Native.Nat.{_^_, _<_};
 use sheet::BLANK;
 use sheet::FEED;
@@ -24,19 +24,29 @@ pub enum Signed {
     Nothing,
 }
 
-// The bytes of the first line of s, which its line feed ends. Rules out a later line feed taken for the first, and a line that is not
-// ended.
-pub fn line_end(s: &[u8]) -> Count
-    ensures { λ r. ⌜ CountOf (LineIs (now (s .entry))) r ⌝ }
+// The bytes before the first line feed; all of them where there is none. Rules out a later line feed taken for the first.
+fn before_feed(s: &[u8]) -> usize
+    ensures { λ r. ⌜ BeforeFeed (now (s .entry)) r ⌝ }
 {
     let mut i = 0;
     while i < s.len() {
         if s[i] == FEED {
-            return Count::Of(i);
+            return i;
         }
         i += 1;
     }
-    Count::Nothing
+    i
+}
+
+// The bytes of the first line of s, which its line feed ends. Rules out a line that is not ended.
+pub fn line_end(s: &[u8]) -> Count
+    ensures { λ r. ⌜ CountOf (LineIs (now (s .entry))) r ⌝ }
+{
+    let end = before_feed(s);
+    if end == s.len() {
+        return Count::Nothing;
+    }
+    Count::Of(end)
 }
 
 // Is a byte a digit? Rules out the bytes beside the ten.

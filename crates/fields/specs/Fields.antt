@@ -6,9 +6,8 @@ use Prim.Native.Nat.{ℕ, _+_, _*_, _^_, _≤_, _<_}
 use lib.IntN.{ℤ}
 use lib.ListN.{length, getD, take, drop}
 use Rattle.theory.specs.Table.{Order}
-use Rattle.sheet.specs.Text.{feed, blank, text, signed}
+use Rattle.sheet.specs.Text.{feed, blank, NoDigit, text, signed}
 use Rattle.sheet.specs.Reading.{Ended}
-use Rattle.sheet.proofs.Numbers.{NoDigit}
 use Rattle.fields.specs.declared.Front.{Front}
 use Rattle.fields.specs.declared.Front.the-variants.{Number, Nothing as NoFront}
 use Rattle.fields.specs.declared.Count.{Count}

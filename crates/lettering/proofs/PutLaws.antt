@@ -76,26 +76,45 @@ number-more v o o′ k h g p =
     puts-same (text (v / 10) ++ ((48 + v % 10) ∷ [])) (text v) o (set o′ k (48 + v % 10)) (k + 1) (sym e)
     (puts-byte (text (v / 10)) o o′ k p (48 + v % 10) (omega (arith, ap length e, length-append (text (v / 10)) ((48 + v % 10) ∷ []))))
 
-module _ (a o o′ : List ℕ) (n : ℕ) (p : Puts a o o′ n) where
-  pub puts-inside : length a ≤ length o → n ≤ length o′
-  puts-inside h = omega (arith, p .is-length, puts-length a o o′ n p h)
-
-  pub byte-inside : length a < length o → n < length o′
-  byte-inside h = omega (arith, p .is-length, puts-length a o o′ n p (omega arith))
-
-  pub byte-fits : length a < length o → Fits w64 (length o) → Fits w64 (n + 1)
-  byte-fits h f = omega (arith, p .is-length)
-
-  -- two parts within the room
-  pub sum-fits : (b r y : List ℕ) (m : ℕ) → Puts b r y m → length a + length b ≤ length o → Fits w64 (length o) → Fits w64 (n + m)
-  sum-fits b r y m q h f = omega (arith, p .is-length, q .is-length)
-
--- parts of a text: the whole fits, so the parts do
-pub part-room : (a b o : List ℕ) → length (a ++ b) ≤ length o → length a + length b ≤ length o
-part-room a b o h = omega (arith, length-append a b)
-
+-- the first of two texts fits where both do
 pub first-room : (a b o : List ℕ) → length (a ++ b) ≤ length o → length a ≤ length o
 first-room a b o h = omega (arith, length-append a b)
 
-pub byte-room : (a : List ℕ) (b : ℕ) (o : List ℕ) → length (a ++ b ∷ []) ≤ length o → length a < length o
-byte-room a b o h = omega (arith, length-append a (b ∷ []))
+-- A text a was put into a room that has space for the text b behind it too. From this alone a function goes on that lends the tail of
+-- the room to the next one, or writes one byte more: so all of them have the same proof.
+pub record FirstPut (a b o o′ : List ℕ) (n : ℕ) : Type 0 where
+  pub put : Puts a o o′ n
+  pub fits : length (a ++ b) ≤ length o
+
+module _ {a b o o′ : List ℕ} {n : ℕ} (s : FirstPut a b o o′ n) where
+  both-fit : length a + length b ≤ length o
+  both-fit = omega (arith, s .fits, length-append a b)
+
+  -- the tail begins inside the room, and the second text fits it
+  pub tail-inside : n ≤ length o′
+  tail-inside = omega (arith, both-fit, s .put .is-length, puts-length a o o′ n (s .put) (first-room a b o (s .fits)))
+
+  pub tail-room : (k : ℕ) → k ≡ length o′ - n → length b ≤ length (take k (drop n o′))
+  tail-room k g = left-room a o o′ n (s .put) b k g both-fit
+
+  -- once it is put there, both are put
+  pub total-fits : {r y : List ℕ} {m : ℕ} → Puts b r y m → Fits w64 (length o) → Fits w64 (n + m)
+  total-fits q f = omega (arith, both-fit, s .put .is-length, q .is-length)
+
+  pub both-put : {ys : List ℕ} {m : ℕ} (k : ℕ) → k ≡ length o′ - n → Puts b (take k (drop n o′)) ys m
+      → Puts (a ++ b) o (take n o′ ++ (ys ++ drop k (drop n o′))) (n + m)
+  both-put {ys} {m} k g q = puts-tail a o o′ n (s .put) b ys m k g q both-fit
+
+module _ {a o o′ : List ℕ} {n b : ℕ} (s : FirstPut a (b ∷ []) o o′ n) where
+  room-for : length a < length o
+  room-for = omega (arith, s .fits, length-append a (b ∷ []))
+
+  -- the same for one byte
+  pub byte-inside : n < length o′
+  byte-inside = omega (arith, room-for, s .put .is-length, puts-length a o o′ n (s .put) (first-room a (b ∷ []) o (s .fits)))
+
+  pub byte-fits : Fits w64 (length o) → Fits w64 (n + 1)
+  byte-fits f = omega (arith, room-for, s .put .is-length)
+
+  pub byte-put : Puts (a ++ b ∷ []) o (set o′ n b) (n + 1)
+  byte-put = puts-byte a o o′ n (s .put) b room-for

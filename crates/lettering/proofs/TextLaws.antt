@@ -4,7 +4,6 @@ use mathlib.Core.Bool.{true, false}
 use mathlib.Core.List.{[], _∷_}
 use Prim.Native.Nat.{ℕ, zero, suc, _+_, _*_, _/_, _%_, _<_, _≤_}
 use native.Mathlib.Omega.{arith}
-use native.Mathlib.Decide.{decLt}
 use lib.Dec.{T}
 use lib.IntN.{ℤ, pos, negsuc, natAbs, _-ℤ_, +ℤ-idl}
 use lib.ListN.{length, length-append}
@@ -13,8 +12,9 @@ use mir.Facts.{toZ-ofZ, sfits-widen}
 use mir.Syntax.{w16, w32, w64}
 use mir.Val.{SFits, Fits, ofZ, toZ}
 use Rattle.theory.proofs.Signed.{signed as signs}
-use Rattle.sheet.specs.Text.{text, signed}
+use Rattle.sheet.specs.Text.{text, signed, minus}
 use Rattle.sheet.proofs.Numbers.{text-small, text-large, by-tens}
+pub use Rattle.sheet.proofs.Numbers.{text-within}
 
 -- a number's length: never more than the number and one, and one digit more for each ten times
 pub text-length : (n : ℕ) → length (text n) ≤ n + 1
@@ -22,22 +22,9 @@ text-length =
     by-tens (λ n. length (text n) ≤ n + 1) (λ n h. rw (text-small n h) (omega arith))
     (λ n h ih. rw (text-large n h) (omega (arith, length-append (text (n / 10)) ((48 + n % 10) ∷ []))))
 
-text-step : (b k : ℕ) → 1 ≤ k → ((m : ℕ) → m < b → length (text m) ≤ k) → (n : ℕ) → n < b * 10 → length (text n) ≤ k + 1
-text-step b k one f n h = go (decLt n 10)
-  where
-    go : Dec (n < 10) → length (text n) ≤ k + 1
-    go (yes g) = rw (text-small n g) (omega arith)
-    go (no g) =
-        rw (text-large n (omega arith)) (omega (arith, length-append (text (n / 10)) ((48 + n % 10) ∷ []), f (n / 10) (omega arith)))
-
--- a number below a power of ten has no more digits than the power
-abbrev pub tens : ℕ → ℕ
-tens zero = 1
-tens (suc k) = tens k * 10
-
-pub text-within : (k n : ℕ) → n < tens (suc k) → length (text n) ≤ suc k
-text-within zero n h = rw (text-small n h) (omega arith)
-text-within (suc k) n h = omega (arith, text-step (tens (suc k)) (suc k) (omega arith) (text-within k) n h)
+-- a number of 64 bits has at most 20 digits
+pub number-short : (v : ℕ) → Fits w64 v → length (text v) ≤ 20
+number-short v f = text-within 19 v (omega arith)
 
 -- a number's two ways: ten and more, or one digit
 pub digits-more : (v : ℕ) → 10 ≤ v → length (text v) ≡ length (text (v / 10)) + 1
@@ -48,7 +35,7 @@ minus-is (pos n) t = absurd (omega (arith, signs, t))
 minus-is (negsuc n) t = +ℤ-idl (pos (suc n))
 
 -- the text of an order with and without a minus
-pub signed-minus : (v : ℤ) → ltZ v (pos 0) ≡ true → signed v ≡ 45 ∷ text (natAbs v)
+pub signed-minus : (v : ℤ) → ltZ v (pos 0) ≡ true → signed v ≡ minus ∷ text (natAbs v)
 signed-minus (pos n) t = absurd (omega (arith, signs, t))
 signed-minus (negsuc n) t = refl
 

@@ -4,4 +4,9 @@ pub mod Slots
 pub mod Lines
 pub mod Once
 pub mod Orders
+pub mod Runs
 pub mod Matching
+pub mod Fronts
+pub mod FirstWrong
+pub mod Deciding
+pub mod WrongSheets

@@ -1,13 +1,16 @@
 -- Lines: where one ends, and what an order line says, is read in one way only. Assumes nothing.
-use mathlib.Core.Path.{_≡_, refl, sym, ap, subst, _∙_}
+use mathlib.Core.Path.{_≡_, refl, sym, ap, subst, subst⁻¹, _∙_}
 use mathlib.Core.Logic.{_≢_}
+use mathlib.Core.Bool.{not}
 use mathlib.Core.List.{List, [], _∷_, _++_}
 use Prim.Native.Nat.{ℕ, suc, _+_, _-_}
 use native.Mathlib.Omega.{arith}
 use native.Mathlib.Decide.{ℕ-discrete}
+use lib.Dec.{T, eqb, T-not}
 use lib.IntN.{ℤ, pos, negsuc}
 use lib.ListN.{length, getD, length-append}
-use Rattle.sheet.specs.Text.{Each, feed, blank, text, signed, rowsHead, colsHead, ordersHead}
+use Rattle.theory.proofs.Search.{all, all-told}
+use Rattle.sheet.specs.Text.{Each, feed, blank, minus, text, signed, rowsHead, colsHead, ordersHead}
 use Rattle.sheet.specs.Labels.{Form}
 use Rattle.sheet.specs.Sheet.{orderText}
 use Rattle.sheet.specs.Reading.{Ended, Section, opening, of-rows, of-cols, of-orders, Heading}
@@ -39,7 +42,7 @@ pub data Cut (s : List ℕ) : Type 0 where
   broken : (l x : List ℕ) → Ended s l x → Cut s
 
 -- a text has a first line or no line feed
-pub cut : (s : List ℕ) → Cut s
+unfoldable pub cut : (s : List ℕ) → Cut s
 cut [] = unbroken (λ k h. absurd (omega arith))
 cut (b ∷ s) =
     elim (ℕ-discrete b feed) [
@@ -59,7 +62,7 @@ label-unbroken l f k h e = omega (arith, letter-low (getD l k 0) (f .letters k h
 
 pub signed-unbroken : (v : ℤ) → Unbroken (signed v)
 signed-unbroken (pos n) = text-unbroken n
-signed-unbroken (negsuc n) = each-cons (λ b. b ≢ feed) 45 (text (suc n)) (omega arith) (text-unbroken (suc n))
+signed-unbroken (negsuc n) = each-cons (λ b. b ≢ feed) minus (text (suc n)) (omega arith) (text-unbroken (suc n))
 
 pub order-unbroken : (i j : ℕ) (v : ℤ) → Unbroken (orderText i j v)
 order-unbroken i j v =
@@ -71,34 +74,22 @@ order-unbroken i j v =
 head-unbroken : (h : List ℕ) (c : ℕ) → Unbroken h → Unbroken (h ++ text c)
 head-unbroken h c u = each-append (λ b. b ≢ feed) h (text c) u (text-unbroken c)
 
+-- so do the names of the sections: their bytes are compared with it one by one
+unbroken-by : (h : List ℕ) → T (all (length h) (λ k. not (eqb (getD h k 0) feed))) → Unbroken h
+unbroken-by h t k p e =
+    T-not (eqb (getD h k 0) feed) (all-told (length h) (λ i. not (eqb (getD h i 0) feed)) t k p) (subst⁻¹ (λ b. T (eqb b feed)) e tt)
+
 pub rows-unbroken : (c : ℕ) → Unbroken (rowsHead ++ text c)
-rows-unbroken c =
-    head-unbroken rowsHead c
-    (each-cons (λ b. b ≢ feed) 114 (111 ∷ 119 ∷ 115 ∷ 32 ∷ []) (omega arith)
-    (each-cons (λ b. b ≢ feed) 111 (119 ∷ 115 ∷ 32 ∷ []) (omega arith)
-    (each-cons (λ b. b ≢ feed) 119 (115 ∷ 32 ∷ []) (omega arith)
-    (each-cons (λ b. b ≢ feed) 115 (32 ∷ []) (omega arith)
-    (each-cons (λ b. b ≢ feed) 32 [] (omega arith) (λ k h. absurd (omega arith)))))))
+unfolding all
+rows-unbroken c = head-unbroken rowsHead c (unbroken-by rowsHead tt)
 
 pub cols-unbroken : (c : ℕ) → Unbroken (colsHead ++ text c)
-cols-unbroken c =
-    head-unbroken colsHead c
-    (each-cons (λ b. b ≢ feed) 99 (111 ∷ 108 ∷ 115 ∷ 32 ∷ []) (omega arith)
-    (each-cons (λ b. b ≢ feed) 111 (108 ∷ 115 ∷ 32 ∷ []) (omega arith)
-    (each-cons (λ b. b ≢ feed) 108 (115 ∷ 32 ∷ []) (omega arith)
-    (each-cons (λ b. b ≢ feed) 115 (32 ∷ []) (omega arith)
-    (each-cons (λ b. b ≢ feed) 32 [] (omega arith) (λ k h. absurd (omega arith)))))))
+unfolding all
+cols-unbroken c = head-unbroken colsHead c (unbroken-by colsHead tt)
 
 pub orders-unbroken : (c : ℕ) → Unbroken (ordersHead ++ text c)
-orders-unbroken c =
-    head-unbroken ordersHead c
-    (each-cons (λ b. b ≢ feed) 111 (114 ∷ 100 ∷ 101 ∷ 114 ∷ 115 ∷ 32 ∷ []) (omega arith)
-    (each-cons (λ b. b ≢ feed) 114 (100 ∷ 101 ∷ 114 ∷ 115 ∷ 32 ∷ []) (omega arith)
-    (each-cons (λ b. b ≢ feed) 100 (101 ∷ 114 ∷ 115 ∷ 32 ∷ []) (omega arith)
-    (each-cons (λ b. b ≢ feed) 101 (114 ∷ 115 ∷ 32 ∷ []) (omega arith)
-    (each-cons (λ b. b ≢ feed) 114 (115 ∷ 32 ∷ []) (omega arith)
-    (each-cons (λ b. b ≢ feed) 115 (32 ∷ []) (omega arith)
-    (each-cons (λ b. b ≢ feed) 32 [] (omega arith) (λ k h. absurd (omega arith)))))))))
+unfolding all
+orders-unbroken c = head-unbroken ordersHead c (unbroken-by ordersHead tt)
 
 -- the sections by number, so that arithmetic tells two of them apart
 abbrev pub rank : Section → ℕ
@@ -115,7 +106,7 @@ heading-once of-cols n c d l p q = text-once c d (append-cancel ordersHead (text
 heading-once of-orders n c d l p q = absurd p
 
 -- an order's value
-minus-no-text : (n : ℕ) (x : List ℕ) → text n ≡ 45 ∷ x → ⊥
+minus-no-text : (n : ℕ) (x : List ℕ) → text n ≡ minus ∷ x → ⊥
 minus-no-text n x e = omega (arith, subst (λ l. Each Digit l) e (text-digits n) 0 (omega arith))
 
 pub signed-once : (v w : ℤ) → signed v ≡ signed w → v ≡ w

@@ -1,7 +1,7 @@
 -- Sheets and labelled tables match one to one: a labelled table's sheet reads as that table, and a sheet that reads as a table is that
 -- table's sheet, byte for byte. Assumes nothing.
 use mathlib.Core.Path.{_≡_, refl, sym, ap, subst, subst⁻¹, _∙_}
-use mathlib.Core.Bool.{Bool, true, false, cond}
+use mathlib.Core.Bool.{Bool, true, false}
 use mathlib.Core.List.{List, [], _∷_, _++_, append-assoc, append-nil}
 use Prim.Native.Nat.{ℕ, zero, suc, _+_, _-_, _*_, _/_, _%_, _<_, _≤_}
 use native.Mathlib.Omega.{arith}
@@ -9,14 +9,18 @@ use lib.IntN.{ℤ}
 use lib.ListN.{length, replicate, length-append, length-replicate}
 use Rattle.theory.specs.Limits.{rows, order}
 use Rattle.theory.specs.Table.{absent, Order, Entries}
-use Rattle.sheet.specs.Text.{feed, text, ended, rowsHead, colsHead, ordersHead}
+use Rattle.sheet.specs.Text.{text, rowsHead, colsHead, ordersHead}
 use Rattle.sheet.specs.Labels.{Labels}
-use Rattle.sheet.specs.Sheet.{Labelled, Stands, labelLines, isAbsent, presentCount, orderText, orderLines, labelSection, orderSection, sheetOf}
-use Rattle.sheet.specs.Reading.{Ended, of-rows, of-cols, of-orders, State, start, After, heading, row-label, col-label, order-line, Final, Outcome, good, tableOf, Reads, done, short, unfit, next}
+use Rattle.sheet.specs.Sheet.{Labelled, Stands, labelLines, isAbsent, presentCount, orderText, orderLines, headed, sheetLines, sheetOf, IsSheet}
+use Rattle.sheet.specs.Reading.{of-rows, of-cols, of-orders, State, start, After, heading, row-label, col-label, order-line, Final}
+use Rattle.sheet.specs.Reading.{Outcome, good, tableOf, Reads, done}
 use Rattle.sheet.proofs.Slots.{labels-none, labels-more, labels-new, labels-form, length-more}
-use Rattle.sheet.proofs.Lines.{Unbroken, rank, rows-unbroken, cols-unbroken, orders-unbroken, label-unbroken, order-unbroken}
-use Rattle.sheet.proofs.Orders.{label-lines-append, label-lines-one, absent-is, absent-not, order-present, lines-append, lines-absent, lines-one, count-append, count-absent, count-one, place-row, place-col, cell, row-inside, col-inside, row-col, entries-none, entries-append, entries-right, entries-absent, entries-one}
+use Rattle.sheet.proofs.Lines.{rank}
+use Rattle.sheet.proofs.Orders.{absent-is, absent-not, order-present, lines-append, lines-absent, lines-one, count-append}
+use Rattle.sheet.proofs.Orders.{count-absent, count-one, count-le, place-row, place-col, cell, row-inside, col-inside, row-col}
+use Rattle.sheet.proofs.Orders.{entries-none, entries-append, entries-right, entries-absent, entries-one}
 use Rattle.sheet.proofs.Once.{good-once}
+use Rattle.sheet.proofs.Runs.{Run, none, then, run-append, run-reads, Halt, at-end, at-fault, Course, course}
 
 -- the state in each section
 abbrev pub inRows : ℕ → List (List ℕ) → State
@@ -28,18 +32,24 @@ inCols m rs cs = record { section = of-cols; left = m; row-labels = rs; col-labe
 abbrev pub inOrders : ℕ → List (List ℕ) → List (List ℕ) → List ℤ → State
 inOrders m rs cs e = record { section = of-orders; left = m; row-labels = rs; col-labels = cs; entries = e }
 
--- The lines so far, whose bytes are p, are the front of a sheet: in each section the heading's count is that of the lines that stand
--- and of those still due.
-pub data Stage : State → List ℕ → Type 0 where
+-- labels of rows and of columns within the limits, as many of the one as of the other
+pub record Framed (rs cs : List (List ℕ)) : Type 0 where
+  pub some : 1 ≤ length rs
+  pub few : length rs ≤ rows
+  pub same : length cs ≡ length rs
+  pub rows-stand : Labels rs
+  pub cols-stand : Labels cs
+
+-- The lines so far are the front of a sheet: in each section the heading's count is that of the lines that stand and of those still due.
+pub data Stage : State → List (List ℕ) → Type 0 where
   at-start : Stage start []
-  in-rows : {p : List ℕ} (c m : ℕ) (rs : List (List ℕ)) → length rs + m ≡ c → 1 ≤ c → c ≤ rows → Labels rs
-      → p ≡ ended (rowsHead ++ text c) ++ labelLines rs → Stage (inRows m rs) p
-  in-cols : {p : List ℕ} (m : ℕ) (rs cs : List (List ℕ)) → length cs + m ≡ length rs → 1 ≤ length rs → length rs ≤ rows → Labels rs → Labels cs
-      → p ≡ labelSection rowsHead rs ++ (ended (colsHead ++ text (length rs)) ++ labelLines cs) → Stage (inCols m rs cs) p
-  in-orders : {p : List ℕ} (c m : ℕ) (rs cs : List (List ℕ)) (e : List ℤ) → presentCount e + m ≡ c → length cs ≡ length rs → 1 ≤ length rs
-      → length rs ≤ rows → Labels rs → Labels cs → length e ≤ length rs * length rs → Entries order e
-      → p ≡ labelSection rowsHead rs ++ (labelSection colsHead cs ++ (ended (ordersHead ++ text c) ++ orderLines (length rs) 0 e))
-      → Stage (inOrders m rs cs e) p
+  in-rows : {ls : List (List ℕ)} (c m : ℕ) (rs : List (List ℕ)) → length rs + m ≡ c → 1 ≤ c → c ≤ rows → Labels rs → ls ≡ headed rowsHead c rs
+      → Stage (inRows m rs) ls
+  in-cols : {ls : List (List ℕ)} (m : ℕ) (rs cs : List (List ℕ)) → length cs + m ≡ length rs → 1 ≤ length rs → length rs ≤ rows → Labels rs → Labels cs
+      → ls ≡ headed rowsHead (length rs) rs ++ headed colsHead (length rs) cs → Stage (inCols m rs cs) ls
+  in-orders : {ls : List (List ℕ)} (m : ℕ) (rs cs : List (List ℕ)) (e : List ℤ) → Framed rs cs → presentCount e + m ≤ length rs * length rs
+      → length e ≤ length rs * length rs → Entries order e
+      → ls ≡ sheetLines (presentCount e + m) (record { row-labels = rs; col-labels = cs; entries = e }) → Stage (inOrders m rs cs e) ls
 
 -- the entries of one order more
 more : (n : ℕ) (e : List ℤ) (i j : ℕ) (v : ℤ) → List ℤ
@@ -59,7 +69,7 @@ module _ (n : ℕ) (e : List ℤ) (i j : ℕ) (v : ℤ) (row : i < n) (col : j <
       ∙ omega
       (arith, count-append (replicate (i * n + j - length e) absent) (v ∷ []), count-absent (i * n + j - length e), count-one v (order-present v o))
 
-  more-lines : orderLines n 0 (more n e i j v) ≡ orderLines n 0 e ++ ended (orderText i j v)
+  more-lines : orderLines n 0 (more n e i j v) ≡ orderLines n 0 e ++ (orderText i j v ∷ [])
   unfolding more
   more-lines =
       let d = i * n + j - length e in
@@ -70,8 +80,8 @@ module _ (n : ℕ) (e : List ℤ) (i j : ℕ) (v : ℤ) (row : i < n) (col : j <
       ∙ ap (λ x. x ++ orderLines n (0 + length e + length (replicate d absent)) (v ∷ [])) (lines-absent n (0 + length e) d)
       ∙ ap (λ x. orderLines n x (v ∷ [])) q
       ∙ lines-one n (i * n + j) v (order-present v o)
-      ∙ ap (λ x. ended (orderText x ((i * n + j) % n) v)) (place-row n i j col)
-      ∙ ap (λ x. ended (orderText i x v)) (place-col n i j col))
+      ∙ ap (λ x. orderText x ((i * n + j) % n) v ∷ []) (place-row n i j col)
+      ∙ ap (λ x. orderText i x v ∷ []) (place-col n i j col))
 
   more-stand : Entries order e → Entries order (more n e i j v)
   unfolding more
@@ -80,239 +90,266 @@ module _ (n : ℕ) (e : List ℤ) (i j : ℕ) (v : ℤ) (row : i < n) (col : j <
       (entries-append (replicate (i * n + j - length e) absent) (v ∷ []) (entries-absent (i * n + j - length e)) (entries-one v o))
 
 -- one line more is the front of a sheet again
-step : {st : State} {p l : List ℕ} {st′ : State} → Stage st p → After st l st′ → Stage st′ (p ++ ended l)
-unfolding labelLines orderLines presentCount more
+step : {st : State} {ls : List (List ℕ)} {l : List ℕ} {st′ : State} → Stage st ls → After st l st′ → Stage st′ (ls ++ (l ∷ []))
+unfolding orderLines presentCount more
 step {l = l} at-start (heading c z h f) =
-    subst⁻¹ (λ x. Stage x (ended l)) f
-    (in-rows c c [] (omega arith) (h .0) (h .1) labels-none (ap ended (h .2) ∙ sym (append-nil (ended (rowsHead ++ text c)))))
+    subst⁻¹ (λ y. Stage y (l ∷ [])) f (in-rows c c [] (omega arith) (h .0) (h .1) labels-none (ap (λ y. y ∷ []) (h .2)))
 step at-start (row-label m s z g n f) = absurd (omega (arith, ap rank s))
 step at-start (col-label m s z g n f) = absurd (omega (arith, ap rank s))
 step at-start (order-line m i j v s z p q o t u f) = absurd (omega (arith, ap rank s))
-step {p = p} {l = l} (in-rows c m rs e a b ls q) (heading d z h f) =
+step {ls = ls} {l} (in-rows c m rs e a b p q) (heading d z h f) =
     let k : c ≡ length rs = omega arith in
     let x : d ≡ length rs = omega arith in
-    subst⁻¹ (λ y. Stage y (p ++ ended l)) f
-    (in-cols d rs [] (omega arith) (omega arith) (omega arith) ls labels-none
-    (ap (λ y. y ++ ended l) (q ∙ ap (λ y. ended (rowsHead ++ text y) ++ labelLines rs) k)
-    ∙ ap (λ y. labelSection rowsHead rs ++ y)
-    (ap ended (h .1 ∙ ap (λ y. colsHead ++ text y) x) ∙ sym (append-nil (ended (colsHead ++ text (length rs)))))))
-step {p = p} {l = l} (in-rows c m rs e a b ls q) (row-label m′ s z g n f) =
-    subst⁻¹ (λ y. Stage y (p ++ ended l)) f
-    (in-rows c m′ (rs ++ (l ∷ [])) (omega (arith, length-more rs l)) a b (labels-more rs l ls g n)
-    (ap (λ y. y ++ ended l) q
-    ∙ append-assoc (ended (rowsHead ++ text c)) (labelLines rs) (ended l)
-    ∙ ap (λ y. ended (rowsHead ++ text c) ++ y)
-    (ap (λ y. labelLines rs ++ y) (sym (label-lines-one l)) ∙ sym (label-lines-append rs (l ∷ [])))))
-step (in-rows c m rs e a b ls q) (col-label m′ s z g n f) = absurd (omega (arith, ap rank s))
-step (in-rows c m rs e a b ls q) (order-line m′ i j v s z p r o t u f) = absurd (omega (arith, ap rank s))
-step {p = p} {l = l} (in-cols m rs cs e a b ls ks q) (heading d z h f) =
-    let k : length rs ≡ length cs = omega arith in
-    subst⁻¹ (λ y. Stage y (p ++ ended l)) f
-    (in-orders d d rs cs [] (omega arith) (omega arith) a b ls ks (omega arith) entries-none
-    (ap (λ y. y ++ ended l) (q ∙ ap (λ y. labelSection rowsHead rs ++ (ended (colsHead ++ text y) ++ labelLines cs)) k)
-    ∙ append-assoc (labelSection rowsHead rs) (labelSection colsHead cs) (ended l)
-    ∙ ap (λ y. labelSection rowsHead rs ++ (labelSection colsHead cs ++ y)) (ap ended (h .2) ∙ sym (append-nil (ended (ordersHead ++ text d))))))
-step (in-cols m rs cs e a b ls ks q) (row-label m′ s z g n f) = absurd (omega (arith, ap rank s))
-step {p = p} {l = l} (in-cols m rs cs e a b ls ks q) (col-label m′ s z g n f) =
-    let h = ended (colsHead ++ text (length rs)) in
-    subst⁻¹ (λ y. Stage y (p ++ ended l)) f
-    (in-cols m′ rs (cs ++ (l ∷ [])) (omega (arith, length-more cs l)) a b ls (labels-more cs l ks g n)
-    (ap (λ y. y ++ ended l) q
-    ∙ append-assoc (labelSection rowsHead rs) (h ++ labelLines cs) (ended l)
-    ∙ ap (λ y. labelSection rowsHead rs ++ y)
-    (append-assoc h (labelLines cs) (ended l)
-    ∙ ap (λ y. h ++ y) (ap (λ y. labelLines cs ++ y) (sym (label-lines-one l)) ∙ sym (label-lines-append cs (l ∷ []))))))
-step (in-cols m rs cs e a b ls ks q) (order-line m′ i j v s z p r o t u f) = absurd (omega (arith, ap rank s))
-step (in-orders c m rs cs e k w a b ls ks x y q) (heading d z h f) = absurd h
-step (in-orders c m rs cs e k w a b ls ks x y q) (row-label m′ s z g n f) = absurd (omega (arith, ap rank s))
-step (in-orders c m rs cs e k w a b ls ks x y q) (col-label m′ s z g n f) = absurd (omega (arith, ap rank s))
-step {p = p} {l = l} (in-orders c m rs cs e k w a b ls ks x y q) (order-line m′ i j v s z g r o t u f) =
+    subst⁻¹ (λ y. Stage y (ls ++ (l ∷ []))) f
+    (in-cols d rs [] (omega arith) (omega arith) (omega arith) p labels-none
+    (ap (λ y. y ++ (l ∷ [])) (q ∙ ap (λ y. headed rowsHead y rs) k)
+    ∙ ap (λ y. headed rowsHead (length rs) rs ++ (y ∷ [])) (h .1 ∙ ap (λ y. colsHead ++ text y) x)))
+step {ls = ls} {l} (in-rows c m rs e a b p q) (row-label m′ s z g n f) =
+    subst⁻¹ (λ y. Stage y (ls ++ (l ∷ []))) f
+    (in-rows c m′ (rs ++ (l ∷ [])) (omega (arith, length-more rs l)) a b (labels-more rs l p g n) (ap (λ y. y ++ (l ∷ [])) q))
+step (in-rows c m rs e a b p q) (col-label m′ s z g n f) = absurd (omega (arith, ap rank s))
+step (in-rows c m rs e a b p q) (order-line m′ i j v s z g r o t u f) = absurd (omega (arith, ap rank s))
+step {ls = ls} {l} (in-cols m rs cs e a b p r q) (heading d z h f) =
     let n = length rs in
-    let h = ended (ordersHead ++ text c) in
-    subst⁻¹ (λ d. Stage d (p ++ ended l)) f
-    (in-orders c m′ rs cs (more n e i j v) (omega (arith, more-count n e i j v g r o t)) w a b ls ks
-    (omega (arith, more-length n e i j v g r o t, cell n i j g r)) (more-stand n e i j v g r o t y)
-    (ap (λ d. d ++ ended l) q
-    ∙ append-assoc (labelSection rowsHead rs) (labelSection colsHead cs ++ (h ++ orderLines n 0 e)) (ended l)
-    ∙ ap (λ d. labelSection rowsHead rs ++ d)
-    (append-assoc (labelSection colsHead cs) (h ++ orderLines n 0 e) (ended l)
-    ∙ ap (λ d. labelSection colsHead cs ++ d)
-    (append-assoc h (orderLines n 0 e) (ended l)
-    ∙ ap (λ d. h ++ d) (ap (λ d. orderLines n 0 e ++ ended d) u ∙ sym (more-lines n e i j v g r o t))))))
-
--- the whole sheet
-pub record Written (t : Labelled) (s : List ℕ) : Type 0 where
-  pub is : s ≡ sheetOf t
-  pub stands : Stands t
-
-finish : {st : State} {p : List ℕ} → Stage st p → Final st → Written (tableOf st) p
-finish at-start f = absurd (omega (arith, ap rank (f .last)))
-finish (in-rows c m rs e a b ls q) f = absurd (omega (arith, ap rank (f .last)))
-finish (in-cols m rs cs e a b ls ks q) f = absurd (omega (arith, ap rank (f .last)))
-finish (in-orders c m rs cs e k w a b ls ks x y q) f =
+    let k : n ≡ length cs = omega arith in
+    let x : d ≡ presentCount [] + d = omega arith in
+    subst⁻¹ (λ y. Stage y (ls ++ (l ∷ []))) f
+    (in-orders d rs cs [] (record { some = a; few = b; same = sym k; rows-stand = p; cols-stand = r }) (omega (arith, h .1)) (omega arith) entries-none
+    (ap (λ y. y ++ (l ∷ [])) (q ∙ ap (λ y. headed rowsHead n rs ++ headed colsHead y cs) k)
+    ∙ append-assoc (headed rowsHead n rs) (headed colsHead (length cs) cs) (l ∷ [])
+    ∙ ap (λ y. headed rowsHead n rs ++ (headed colsHead (length cs) cs ++ (y ∷ []))) (h .2 ∙ ap (λ y. ordersHead ++ text y) x)))
+step (in-cols m rs cs e a b p r q) (row-label m′ s z g n f) = absurd (omega (arith, ap rank s))
+step {ls = ls} {l} (in-cols m rs cs e a b p r q) (col-label m′ s z g n f) =
+    subst⁻¹ (λ y. Stage y (ls ++ (l ∷ []))) f
+    (in-cols m′ rs (cs ++ (l ∷ [])) (omega (arith, length-more cs l)) a b p (labels-more cs l r g n)
+    (ap (λ y. y ++ (l ∷ [])) q ∙ append-assoc (headed rowsHead (length rs) rs) (headed colsHead (length rs) cs) (l ∷ [])))
+step (in-cols m rs cs e a b p r q) (order-line m′ i j v s z g w o t u f) = absurd (omega (arith, ap rank s))
+step (in-orders m rs cs e w k x y q) (heading d z h f) = absurd h
+step (in-orders m rs cs e w k x y q) (row-label m′ s z g n f) = absurd (omega (arith, ap rank s))
+step (in-orders m rs cs e w k x y q) (col-label m′ s z g n f) = absurd (omega (arith, ap rank s))
+step {ls = ls} {l} (in-orders m rs cs e w k x y q) (order-line m′ i j v s z g r o t u f) =
     let n = length rs in
-    let d = n * n - length e in
-    let g : c ≡ presentCount (e ++ replicate d absent) = omega (arith, count-append e (replicate d absent), count-absent d) in
-    let h : orderLines n 0 e ≡ orderLines n 0 (e ++ replicate d absent) =
+    let a = headed rowsHead n rs in
+    let b = headed colsHead (length cs) cs in
+    let c = headed ordersHead (presentCount e + m) (orderLines n 0 e) in
+    let e′ = more n e i j v in
+    let d : presentCount e + m ≡ presentCount e′ + m′ = omega (arith, more-count n e i j v g r o t) in
+    subst⁻¹ (λ p. Stage p (ls ++ (l ∷ []))) f
+    (in-orders m′ rs cs e′ w (omega arith) (omega (arith, more-length n e i j v g r o t, cell n i j g r)) (more-stand n e i j v g r o t y)
+    (ap (λ p. p ++ (l ∷ [])) q
+    ∙ append-assoc a (b ++ c) (l ∷ [])
+    ∙ ap (λ p. a ++ p) (append-assoc b c (l ∷ []))
+    ∙ ap (λ p. a ++ (b ++ headed ordersHead (presentCount e + m) (orderLines n 0 e ++ (p ∷ [])))) u
+    ∙ ap (λ p. a ++ (b ++ headed ordersHead (presentCount e + m) p)) (sym (more-lines n e i j v g r o t))
+    ∙ ap (λ p. a ++ (b ++ headed ordersHead p (orderLines n 0 e′))) d))
+
+pub run-stage : {a b : State} {ls : List (List ℕ)} (ks : List (List ℕ)) → Stage a ks → Run a ls b → Stage b (ks ++ ls)
+run-stage {a} ks q none = subst⁻¹ (λ x. Stage a x) (append-nil ks) q
+run-stage {b = b} ks q (then {ls = ls} l x r) =
+    subst (λ y. Stage b y) (append-assoc ks (l ∷ []) ls) (run-stage (ks ++ (l ∷ [])) (step q x) r)
+
+-- In the section of the orders the lines are those of a table within the limits, with the orders still due added to its count.
+pub record Rendered (st : State) (ls : List (List ℕ)) : Type 0 where
+  pub stands : Stands (tableOf st)
+  pub few : presentCount (tableOf st .entries) + st .left ≤ length (st .row-labels) * length (st .row-labels)
+  pub is : ls ≡ sheetLines (presentCount (tableOf st .entries) + st .left) (tableOf st)
+
+pub rendered : {st : State} {ls : List (List ℕ)} → Stage st ls → st .section ≡ of-orders → Rendered st ls
+rendered at-start s = absurd (omega (arith, ap rank s))
+rendered (in-rows c m rs e a b p q) s = absurd (omega (arith, ap rank s))
+rendered (in-cols m rs cs e a b p r q) s = absurd (omega (arith, ap rank s))
+rendered (in-orders m rs cs e w k x y q) s =
+    let n = length rs in
+    let gap = replicate (n * n - length e) absent in
+    let a = headed rowsHead n rs in
+    let b = headed colsHead (length cs) cs in
+    let g : presentCount e ≡ presentCount (e ++ gap) = omega (arith, count-append e gap, count-absent (n * n - length e)) in
+    let h : orderLines n 0 e ≡ orderLines n 0 (e ++ gap) =
     sym
-    (lines-append n 0 e (replicate d absent)
-    ∙ ap (λ z. orderLines n 0 e ++ z) (lines-absent n (0 + length e) d) ∙ append-nil (orderLines n 0 e)) in
+    (lines-append n 0 e gap
+    ∙ ap (λ z. orderLines n 0 e ++ z) (lines-absent n (0 + length e) (n * n - length e)) ∙ append-nil (orderLines n 0 e)) in
     record {
-      is =
-          q
-          ∙ ap (λ z. labelSection rowsHead rs ++ (labelSection colsHead cs ++ (ended (ordersHead ++ text z) ++ orderLines n 0 e))) g
-          ∙ ap
-          (λ z. labelSection rowsHead rs ++ (labelSection colsHead cs ++ (ended (ordersHead ++ text (presentCount (e ++ replicate d absent))) ++ z)))
-          h;
       stands =
           record {
-            some = a;
-            few = b;
-            same = w;
-            square = length-append e (replicate d absent) ∙ omega (arith, length-replicate {A = ℤ} d absent);
-            rows-stand = ls;
-            cols-stand = ks;
-            entries-stand = entries-append e (replicate d absent) y (entries-absent d);
+            some = w .some;
+            few = w .few;
+            same = w .same;
+            square = length-append e gap ∙ omega (arith, length-replicate {A = ℤ} (n * n - length e) absent);
+            rows-stand = w .rows-stand;
+            cols-stand = w .cols-stand;
+            entries-stand = entries-append e gap y (entries-absent (n * n - length e));
           };
+      few = omega arith;
+      is =
+          q
+          ∙ ap (λ z. a ++ (b ++ headed ordersHead (z + m) (orderLines n 0 e))) g
+          ∙ ap (λ z. a ++ (b ++ headed ordersHead (presentCount (e ++ gap) + m) z)) h;
     }
 
-back : {st : State} {k : ℕ} {s : List ℕ} {o : Outcome} (t : Labelled) (p : List ℕ) → Reads st k s o → o ≡ good t → Stage st p → Written t (p ++ s)
-back {st = st} {s = s} t p (done z f e) g q =
-    let d : good (tableOf st) ≡ good t = sym e ∙ g in
-    let h : tableOf st ≡ t = cc in
-    subst (λ x. Written x (p ++ s)) h (subst⁻¹ (λ x. Written (tableOf st) x) (ap (λ x. p ++ x) z ∙ append-nil p) (finish q f))
-back t p (short u n e) g q = absurd (let z : _≡_ {A = ℕ} 0 1 = cc in omega arith)
-back t p (unfit l r d n e) g q = absurd (let z : _≡_ {A = ℕ} 0 1 = cc in omega arith)
-back t p (next l r st′ d a m) g q =
-    subst (λ x. Written t x)
-    (append-assoc p (ended l) r ∙ ap (λ x. p ++ x) (append-assoc l (feed ∷ []) r ∙ sym (d .parts)))
-    (back t (p ++ ended l) m g (step q a))
+-- at an end all bytes are a sheet
+pub ends-written : {st : State} {ls : List (List ℕ)} → Stage st ls → Final st → IsSheet (tableOf st) (labelLines ls)
+ends-written {st} q f =
+    let r = rendered q (f .last) in
+    let e : presentCount (tableOf st .entries) + st .left ≡ presentCount (tableOf st .entries) = omega (arith, f .none-left) in
+    record { is = ap labelLines (r .is ∙ ap (λ k. sheetLines k (tableOf st)) e); stands = r .stands }
 
 -- a sheet that is read is what the writer writes for its table, byte for byte
-pub read-is-written : (s : List ℕ) (t : Labelled) → Reads start 1 s (good t) → Written t s
-read-is-written s t r = back t [] r refl at-start
+pub read-is-written : (s : List ℕ) (t : Labelled) → Reads start 1 s (good t) → IsSheet t s
+read-is-written s t r = go (course r .stop)
+  where
+    c : Course start 1 s (good t)
+    c = course r
 
--- Now from a table to the reading of its sheet. A line, its line feed and the rest are a first line.
-first : (l x : List ℕ) → Unbroken l → Ended (ended l ++ x) l x
-first l x u = record { parts = append-assoc l (feed ∷ []) x; whole = u }
+    go : Halt (c .end) (1 + length (c .lines)) (c .rest) (good t) → IsSheet t s
+    go (at-end z f e) =
+        let h : tableOf (c .end) ≡ t = cc in
+        subst (λ x. IsSheet x s) h
+        (subst⁻¹ (λ x. IsSheet (tableOf (c .end)) x) (c .parts ∙ ap (λ x. labelLines (c .lines) ++ x) z ∙ append-nil (labelLines (c .lines)))
+        (ends-written (run-stage [] at-start (c .run)) f))
+    go (at-fault n e) = absurd (let z : _≡_ {A = ℕ} 0 1 = cc in omega arith)
 
+-- ---- Now from a table to the reading of its sheet.
 -- labels still to be read, after those in a
-forward-rows : (a b : List (List ℕ)) (k : ℕ) (x : List ℕ) (o : Outcome) → Labels (a ++ b) → ((i : ℕ) → Reads (inRows 0 (a ++ b)) i x o)
-    → Reads (inRows (length b) a) k (labelLines b ++ x) o
-unfolding labelLines
-forward-rows a [] k x o ls r = subst (λ y. Reads (inRows 0 y) k x o) (append-nil a) (r k)
-forward-rows a (l ∷ b) k x o ls r =
+pub run-rows : (a b : List (List ℕ)) → Labels (a ++ b) → Run (inRows (length b) a) b (inRows 0 (a ++ b))
+run-rows a [] p = subst⁻¹ (λ y. Run (inRows 0 a) [] (inRows 0 y)) (append-nil a) none
+run-rows a (l ∷ b) p =
     let e : (a ++ (l ∷ [])) ++ b ≡ a ++ l ∷ b = append-assoc a (l ∷ []) b in
-    subst⁻¹ (λ y. Reads (inRows (suc (length b)) a) k y o) (append-assoc (ended l) (labelLines b) x)
-    (next l (labelLines b ++ x) (inRows (length b) (a ++ (l ∷ []))) (first l (labelLines b ++ x) (label-unbroken l (labels-form a l b ls)))
-    (row-label (length b) refl refl (labels-form a l b ls) (labels-new a l b ls) refl)
-    (forward-rows (a ++ (l ∷ [])) b (suc k) x o (subst⁻¹ (λ y. Labels y) e ls) (λ i. subst⁻¹ (λ y. Reads (inRows 0 y) i x o) e (r i))))
+    then {st′ = inRows (length b) (a ++ (l ∷ []))} l (row-label (length b) refl refl (labels-form a l b p) (labels-new a l b p) refl)
+    (subst (λ y. Run (inRows (length b) (a ++ (l ∷ []))) b (inRows 0 y)) e (run-rows (a ++ (l ∷ [])) b (subst⁻¹ (λ y. Labels y) e p)))
 
-forward-cols : (rs a b : List (List ℕ)) (k : ℕ) (x : List ℕ) (o : Outcome) → Labels (a ++ b) → ((i : ℕ) → Reads (inCols 0 rs (a ++ b)) i x o)
-    → Reads (inCols (length b) rs a) k (labelLines b ++ x) o
-unfolding labelLines
-forward-cols rs a [] k x o ls r = subst (λ y. Reads (inCols 0 rs y) k x o) (append-nil a) (r k)
-forward-cols rs a (l ∷ b) k x o ls r =
+pub run-cols : (rs a b : List (List ℕ)) → Labels (a ++ b) → Run (inCols (length b) rs a) b (inCols 0 rs (a ++ b))
+run-cols rs a [] p = subst⁻¹ (λ y. Run (inCols 0 rs a) [] (inCols 0 rs y)) (append-nil a) none
+run-cols rs a (l ∷ b) p =
     let e : (a ++ (l ∷ [])) ++ b ≡ a ++ l ∷ b = append-assoc a (l ∷ []) b in
-    subst⁻¹ (λ y. Reads (inCols (suc (length b)) rs a) k y o) (append-assoc (ended l) (labelLines b) x)
-    (next l (labelLines b ++ x) (inCols (length b) rs (a ++ (l ∷ []))) (first l (labelLines b ++ x) (label-unbroken l (labels-form a l b ls)))
-    (col-label (length b) refl refl (labels-form a l b ls) (labels-new a l b ls) refl)
-    (forward-cols rs (a ++ (l ∷ [])) b (suc k) x o (subst⁻¹ (λ y. Labels y) e ls) (λ i. subst⁻¹ (λ y. Reads (inCols 0 rs y) i x o) e (r i))))
+    then {st′ = inCols (length b) rs (a ++ (l ∷ []))} l (col-label (length b) refl refl (labels-form a l b p) (labels-new a l b p) refl)
+    (subst (λ y. Run (inCols (length b) rs (a ++ (l ∷ []))) b (inCols 0 rs y)) e (run-cols rs (a ++ (l ∷ [])) b (subst⁻¹ (λ y. Labels y) e p)))
 
--- the table whose entries are e, then d absent ones, then r
-abbrev joined : List (List ℕ) → List (List ℕ) → List ℤ → ℕ → List ℤ → Labelled
-joined rs cs e d r = record { row-labels = rs; col-labels = cs; entries = e ++ (replicate d absent ++ r) }
+-- the lines ls say all the entries, and m orders are still due; what is said ends with the last order
+pub record RunsTo (a : State) (ls rs cs : List (List ℕ)) (all : List ℤ) (m : ℕ) : Type 0 where
+  pub said : List ℤ
+  pub gap : ℕ
+  pub parts : all ≡ said ++ replicate gap absent
+  pub run : Run a ls (inOrders m rs cs said)
 
 -- d absent entries and one more
 absent-more : (d : ℕ) (r : List ℤ) → replicate d absent ++ (absent ∷ r) ≡ replicate (suc d) absent ++ r
 absent-more zero r = refl
 absent-more (suc d) r = ap (λ x. absent ∷ x) (absent-more d r)
 
-module _ (rs cs : List (List ℕ)) where
-  -- the order lines still to be read, after e and d absent places; by cases on the next entry
-  forward-by : (e : List ℤ) (d k : ℕ) (v : ℤ) (r : List ℤ) (t : Bool) → isAbsent v ≡ t → length e + d + length (v ∷ r) ≡ length rs * length rs
-      → Entries order (v ∷ r)
-      → ((e′ : List ℤ) (d′ k′ : ℕ) → length e′ + d′ + length r ≡ length rs * length rs
-      → Reads (inOrders (presentCount r) rs cs e′) k′ (orderLines (length rs) (length e′ + d′) r) (good (joined rs cs e′ d′ r)))
-      → Reads (inOrders (presentCount (v ∷ r)) rs cs e) k (orderLines (length rs) (length e + d) (v ∷ r)) (good (joined rs cs e d (v ∷ r)))
+-- the order lines still to be read, after e and d absent places; by cases on the next entry
+module _ (rs cs : List (List ℕ)) (m : ℕ) where
+  abbrev Rest : List ℤ → ℕ → List ℤ → Type 0
+  Rest e d r = RunsTo (inOrders (presentCount r + m) rs cs e) (orderLines (length rs) (length e + d) r) rs cs (e ++ (replicate d absent ++ r)) m
+
+  absent-next : (e : List ℤ) (d : ℕ) (v : ℤ) (r : List ℤ) → isAbsent v ≡ true → Rest e (suc d) r → Rest e d (v ∷ r)
   unfolding orderLines presentCount
-  forward-by e d k v r true f g s rec =
+  absent-next e d v r f q =
       let h : length e + suc d ≡ suc (length e + d) = omega arith in
       rw f
-      (subst (λ x. Reads (inOrders (presentCount r) rs cs e) k x (good (joined rs cs e d (v ∷ r)))) (ap (λ i. orderLines (length rs) i r) h)
-      (subst (λ x. Reads (inOrders (presentCount r) rs cs e) k (orderLines (length rs) (length e + suc d) r) (good x))
-      (ap (λ x. record { row-labels = rs; col-labels = cs; entries = e ++ x })
-      (sym (absent-more d r) ∙ ap (λ x. replicate d absent ++ (x ∷ r)) (sym (absent-is v f))))
-      (rec e (suc d) k (omega arith))))
-  forward-by e d k v r false f g s rec =
-      let p = length e + d in
-      let q : p < length rs * length rs = omega arith in
-      let i = p / length rs in
-      let j = p % length rs in
-      let w : i * length rs + j - length e ≡ d = omega (arith, row-col (length rs) p q) in
-      let e′ = e ++ (replicate d absent ++ (v ∷ [])) in
-      let z : length e′ ≡ suc p =
-      length-append e (replicate d absent ++ (v ∷ []))
-      ∙ omega (arith, length-append (replicate d absent) (v ∷ []), length-replicate {A = ℤ} d absent) in
-      let y : length e′ + 0 ≡ suc p = omega arith in
-      let m : e′ ++ r ≡ e ++ (replicate d absent ++ (v ∷ r)) =
-      append-assoc e (replicate d absent ++ (v ∷ [])) r ∙ ap (λ x. e ++ x) (append-assoc (replicate d absent) (v ∷ []) r) in
-      let o : Order order v = s 0 (omega arith) (absent-not v f) in
+      (record {
+        said = q .said;
+        gap = q .gap;
+        parts = ap (λ x. e ++ x) (ap (λ x. replicate d absent ++ (x ∷ r)) (absent-is v f) ∙ absent-more d r) ∙ q .parts;
+        run = subst (λ x. Run (inOrders (presentCount r + m) rs cs e) (orderLines (length rs) x r) (inOrders m rs cs (q .said))) h (q .run);
+      })
+
+  present-next : (e : List ℤ) (d : ℕ) (v : ℤ) (r : List ℤ) → isAbsent v ≡ false → length e + d < length rs * length rs → Order order v
+      → Rest (more (length rs) e ((length e + d) / length rs) ((length e + d) % length rs) v) 0 r → Rest e d (v ∷ r)
+  unfolding orderLines presentCount more
+  present-next e d v r f w o q =
+      let n = length rs in
+      let i = (length e + d) / n in
+      let j = (length e + d) % n in
+      let c : i * n + j ≡ length e + d = row-col n (length e + d) w in
+      let g : i < n = row-inside n (length e + d) w in
+      let k : j < n = col-inside n (length e + d) w in
+      let gap = replicate (i * n + j - length e) absent in
+      let z : d ≡ i * n + j - length e = omega arith in
+      let h : length (e ++ (gap ++ (v ∷ []))) + 0 ≡ suc (length e + d) = omega (arith, more-length n e i j v g k o (omega arith)) in
+      let y : suc (presentCount r) + m ≡ suc (presentCount r + m) = omega arith in
+      let st = inOrders (presentCount r + m) rs cs (e ++ (gap ++ (v ∷ []))) in
       rw f
-      (next {st = inOrders (suc (presentCount r)) rs cs e} (orderText i j v) (orderLines (length rs) (suc p) r) (inOrders (presentCount r) rs cs e′)
-      (first (orderText i j v) (orderLines (length rs) (suc p) r) (order-unbroken i j v))
-      (order-line (presentCount r) i j v refl refl (row-inside (length rs) p q) (col-inside (length rs) p q) o
-      (omega (arith, row-col (length rs) p q)) refl (ap (λ x. inOrders (presentCount r) rs cs (e ++ (replicate x absent ++ (v ∷ [])))) (sym w)))
-      (subst (λ x. Reads (inOrders (presentCount r) rs cs e′) (suc k) x (good (joined rs cs e d (v ∷ r)))) (ap (λ x. orderLines (length rs) x r) y)
-      (subst (λ x. Reads (inOrders (presentCount r) rs cs e′) (suc k) (orderLines (length rs) (length e′ + 0) r) (good x))
-      (ap (λ x. record { row-labels = rs; col-labels = cs; entries = x }) m) (rec e′ 0 (suc k) (omega arith)))))
+      (record {
+        said = q .said;
+        gap = q .gap;
+        parts =
+            ap (λ x. e ++ (replicate x absent ++ (v ∷ r))) z
+            ∙ sym (append-assoc e (gap ++ (v ∷ [])) r ∙ ap (λ x. e ++ x) (append-assoc gap (v ∷ []) r))
+            ∙ q .parts;
+        run =
+            then {st = inOrders (suc (presentCount r) + m) rs cs e} {st′ = st} (orderText i j v)
+            (order-line (presentCount r + m) i j v refl y g k o (omega arith) refl refl)
+            (subst (λ x. Run st (orderLines n x r) (inOrders m rs cs (q .said))) h (q .run));
+      })
 
-  forward-orders : (r e : List ℤ) (d k : ℕ) → length e + d + length r ≡ length rs * length rs → Entries order r
-      → Reads (inOrders (presentCount r) rs cs e) k (orderLines (length rs) (length e + d) r) (good (joined rs cs e d r))
+  orders-by : (e : List ℤ) (d : ℕ) (v : ℤ) (r : List ℤ) (t : Bool) → isAbsent v ≡ t → length e + d + length (v ∷ r) ≡ length rs * length rs
+      → Entries order (v ∷ r) → ((e′ : List ℤ) (d′ : ℕ) → length e′ + d′ + length r ≡ length rs * length rs → Rest e′ d′ r) → Rest e d (v ∷ r)
+  orders-by e d v r true f g s rec = absent-next e d v r f (rec e (suc d) (omega arith))
+  orders-by e d v r false f g s rec =
+      let n = length rs in
+      let p = length e + d in
+      let w : p < n * n = omega arith in
+      let c = row-col n p w in
+      let o : Order order v = s 0 (omega arith) (absent-not v f) in
+      present-next e d v r f w o
+      (rec (more n e (p / n) (p % n) v) 0
+      (omega (arith, more-length n e (p / n) (p % n) v (row-inside n p w) (col-inside n p w) o (omega arith))))
+
+  run-orders : (r e : List ℤ) (d : ℕ) → length e + d + length r ≡ length rs * length rs → Entries order r → Rest e d r
   unfolding orderLines presentCount
-  forward-orders [] e d k g s =
-      let w : d ≡ length rs * length rs - length e = omega arith in
-      done refl (record { last = refl; none-left = refl })
-      (ap (λ x. good (record { row-labels = rs; col-labels = cs; entries = e ++ x }))
-      (append-nil (replicate d absent) ∙ ap (λ x. replicate x absent) w))
-  forward-orders (v ∷ r) e d k g s =
-      forward-by e d k v r (isAbsent v) refl g s
-      (λ e′ d′ k′ h. forward-orders r e′ d′ k′ h (entries-right (v ∷ []) r s))
+  run-orders [] e d g s =
+      let k : 0 + m ≡ m = omega arith in
+      record {
+        said = e;
+        gap = d;
+        parts = ap (λ x. e ++ x) (append-nil (replicate d absent));
+        run = subst⁻¹ (λ x. Run (inOrders x rs cs e) [] (inOrders m rs cs e)) k none;
+      }
+  run-orders (v ∷ r) e d g s =
+      orders-by e d v r (isAbsent v) refl g s (λ e′ d′ h. run-orders r e′ d′ h (entries-right (v ∷ []) r s))
 
--- at most every place is present
-count-le : (e : List ℤ) → presentCount e ≤ length e
-unfolding presentCount
-count-le [] = omega arith
-count-le (v ∷ e) = go (isAbsent v) (count-le e)
-  where
-    go : (t : Bool) → presentCount e ≤ length e → cond t (presentCount e) (suc (presentCount e)) ≤ suc (length e)
-    go true h = omega arith
-    go false h = omega arith
+-- the lines of a table's sheet stand one after the other, with m added to the count of its orders
+pub run-sheet : (m : ℕ) (t : Labelled) → Stands t → presentCount (t .entries) + m ≤ length (t .row-labels) * length (t .row-labels)
+    → RunsTo start (sheetLines (presentCount (t .entries) + m) t) (t .row-labels) (t .col-labels) (t .entries) m
+run-sheet m t w k =
+    let rs = t .row-labels in
+    let cs = t .col-labels in
+    let c = presentCount (t .entries) + m in
+    let q = run-orders rs cs m (t .entries) [] 0 (omega (arith, w .square)) (w .entries-stand) in
+    record {
+      said = q .said;
+      gap = q .gap;
+      parts = q .parts;
+      run =
+          then {st = start} {st′ = inRows (length rs) []} (rowsHead ++ text (length rs)) (heading (length rs) refl (w .some, w .few, refl) refl)
+          (run-append (run-rows [] rs (w .rows-stand))
+          (then {st = inRows 0 rs} {st′ = inCols (length cs) rs []} (colsHead ++ text (length cs)) (heading (length cs) refl (w .same, refl) refl)
+          (run-append (run-cols rs [] cs (w .cols-stand))
+          (then {st = inCols 0 rs cs} {st′ = inOrders c rs cs []} (ordersHead ++ text c) (heading c refl (omega arith, k, refl) refl) (q .run)))));
+    }
 
 -- the sheet of a labelled table reads as that table
 pub written-is-read : (t : Labelled) → Stands t → Reads start 1 (sheetOf t) (good t)
 written-is-read t w =
-    let rs = t .row-labels in
-    let cs = t .col-labels in
-    let e = t .entries in
-    let third = orderSection (length rs) e in
-    let second = labelSection colsHead cs ++ third in
-    let o : (k : ℕ) → Reads (inCols 0 rs cs) k third (good t) = λ k.
-    next {st = inCols 0 rs cs} (ordersHead ++ text (presentCount e)) (orderLines (length rs) 0 e) (inOrders (presentCount e) rs cs [])
-    (first (ordersHead ++ text (presentCount e)) (orderLines (length rs) 0 e) (orders-unbroken (presentCount e)))
-    (heading (presentCount e) refl (omega arith, omega (arith, count-le e, w .square), refl) refl)
-    (forward-orders rs cs e [] 0 (suc k) (omega (arith, w .square)) (w .entries-stand)) in
-    let c : (k : ℕ) → Reads (inRows 0 rs) k second (good t) = λ k.
-    subst⁻¹ (λ x. Reads (inRows 0 rs) k x (good t)) (append-assoc (ended (colsHead ++ text (length cs))) (labelLines cs) third)
-    (next {st = inRows 0 rs} (colsHead ++ text (length cs)) (labelLines cs ++ third) (inCols (length cs) rs [])
-    (first (colsHead ++ text (length cs)) (labelLines cs ++ third) (cols-unbroken (length cs)))
-    (heading (length cs) refl (w .same, refl) refl)
-    (forward-cols rs [] cs (suc k) third (good t) (w .cols-stand) o)) in
-    subst⁻¹ (λ x. Reads start 1 x (good t)) (append-assoc (ended (rowsHead ++ text (length rs))) (labelLines rs) second)
-    (next {st = start} (rowsHead ++ text (length rs)) (labelLines rs ++ second) (inRows (length rs) [])
-    (first (rowsHead ++ text (length rs)) (labelLines rs ++ second) (rows-unbroken (length rs)))
-    (heading (length rs) refl (w .some, w .few, refl) refl)
-    (forward-rows [] rs 2 second (good t) (w .rows-stand) c))
+    let n = length (t .row-labels) in
+    let c = presentCount (t .entries) in
+    let q = run-sheet 0 t w (omega (arith, count-le (t .entries), w .square)) in
+    let st = inOrders 0 (t .row-labels) (t .col-labels) (q .said) in
+    let e : c + 0 ≡ c = omega arith in
+    let g : n * n - length (q .said) ≡ q .gap =
+    omega (
+      arith,
+      w .square,
+      ap length (q .parts),
+      length-append (q .said) (replicate (q .gap) absent),
+      length-replicate {A = ℤ} (q .gap) absent,
+    ) in
+    let h : t ≡ tableOf st =
+    ap (λ x. record { row-labels = t .row-labels; col-labels = t .col-labels; entries = x })
+    (q .parts ∙ ap (λ x. q .said ++ replicate x absent) (sym g)) in
+    subst (λ x. Reads start 1 x (good t)) (append-nil (sheetOf t))
+    (run-reads 1 [] (good t) (subst (λ x. Run start (sheetLines x t) st) e (q .run))
+    (done refl (record { last = refl; none-left = refl }) (ap good h)))
 
 -- one labelled table has one sheet, and one sheet at most one labelled table
 pub sheet-once : (a b : Labelled) → Stands a → Stands b → sheetOf a ≡ sheetOf b → a ≡ b

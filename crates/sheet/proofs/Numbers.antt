@@ -4,11 +4,13 @@ use mathlib.Core.Bool.{Bool, true, false}
 use mathlib.Core.List.{List, [], _∷_, _++_}
 use Prim.Native.Nat.{ℕ, zero, suc, _+_, _-_, _*_, _/_, _%_, _<_, _≤_}
 use native.Mathlib.Omega.{arith}
+use native.Mathlib.Decide.{decLt}
 use borrow.Author.Tests.{ltb-false, lt-ltb, le-ltb}
 use lib.Dec.{ltb}
 use lib.ListN.{length, getD, length-append, List·getD-append}
 use Rattle.sheet.specs.Text.{Each, digits, text}
-use Rattle.sheet.proofs.Bytes.{cond-by, each-append, each-one, Stops, front-once}
+pub use Rattle.sheet.specs.Text.{Digit, NoDigit}
+use Rattle.sheet.proofs.Bytes.{cond-by, each-append, each-one, front-once}
 
 -- more fuel than the number changes nothing
 digits-fuel : (f g n : ℕ) → n < f → n < g → digits f n ≡ digits g n
@@ -47,9 +49,6 @@ tens-by P a b (suc f) n h = go (ltb n 10) refl (λ k. tens-by P a b f (n / 10) (
 pub by-tens : (P : ℕ → Type 0) → ((n : ℕ) → n < 10 → P n) → ((n : ℕ) → 10 ≤ n → P (n / 10) → P n) → (n : ℕ) → P n
 by-tens P a b n = tens-by P a b (suc n) n (omega arith)
 
-abbrev pub Digit : ℕ → Type 0
-Digit b = (48 ≤ b) × (b ≤ 57)
-
 pub text-digits : (n : ℕ) → Each Digit (text n)
 text-digits =
     by-tens (λ n. Each Digit (text n)) (λ n h. subst⁻¹ (λ l. Each Digit l) (text-small n h) (each-one Digit (48 + n) (omega arith)))
@@ -61,6 +60,45 @@ text-some =
     by-tens (λ n. 1 ≤ length (text n)) (λ n h. subst⁻¹ (λ l. 1 ≤ length l) (text-small n h) (omega arith))
     (λ n h ih.
     subst⁻¹ (λ l. 1 ≤ length l) (text-large n h) (omega (arith, length-append (text (n / 10)) ((48 + n % 10) ∷ []))))
+
+-- a number below ten times b has at most one digit more than the numbers below b
+text-step : (b k : ℕ) → 1 ≤ k → ((m : ℕ) → m < b → length (text m) ≤ k) → (n : ℕ) → n < b * 10 → length (text n) ≤ k + 1
+text-step b k one f n h = go (decLt n 10)
+  where
+    go : Dec (n < 10) → length (text n) ≤ k + 1
+    go (yes g) = rw (text-small n g) (omega arith)
+    go (no g) =
+        rw (text-large n (omega arith)) (omega (arith, length-append (text (n / 10)) ((48 + n % 10) ∷ []), f (n / 10) (omega arith)))
+
+-- a number below a power of ten has no more digits than the power
+abbrev pub tens : ℕ → ℕ
+tens zero = 1
+tens (suc k) = tens k * 10
+
+pub text-within : (k n : ℕ) → n < tens (suc k) → length (text n) ≤ suc k
+text-within zero n h = rw (text-small n h) (omega arith)
+text-within (suc k) n h = omega (arith, text-step (tens (suc k)) (suc k) (omega arith) (text-within k) n h)
+
+-- a number has no more digits than a greater one
+pub text-mono : (m n : ℕ) → n ≤ m → length (text n) ≤ length (text m)
+text-mono =
+    by-tens (λ m. (n : ℕ) → n ≤ m → length (text n) ≤ length (text m))
+    (λ m h n g. omega (arith, ap length (text-small m h), ap length (text-small n (omega arith)))) large
+  where
+    large : (m : ℕ) → 10 ≤ m → ((n : ℕ) → n ≤ m / 10 → length (text n) ≤ length (text (m / 10))) → (n : ℕ) → n ≤ m → length (text n) ≤ length (text m)
+    large m h rec n g =
+        elim (decLt n 10) [
+          | yes k ↦ omega (arith, ap length (text-small n k), text-some m)
+          | no k ↦
+              omega (
+                arith,
+                ap length (text-large m h),
+                ap length (text-large n (omega arith)),
+                length-append (text (m / 10)) ((48 + m % 10) ∷ []),
+                length-append (text (n / 10)) ((48 + n % 10) ∷ []),
+                rec (n / 10) (omega arith),
+              )
+        ]
 
 -- "no leading zero"
 pub text-first : (n : ℕ) → 1 ≤ n → 49 ≤ getD (text n) 0 0
@@ -94,10 +132,6 @@ value-text =
 
 pub text-once : (v w : ℕ) → text v ≡ text w → v ≡ w
 text-once v w e = sym (value-text v) ∙ ap (λ l. valueFrom 0 l) e ∙ value-text w
-
--- s does not begin with a digit
-abbrev pub NoDigit : List ℕ → Type 0
-NoDigit s = Stops Digit s
 
 -- a number, and what stands after it, is read in one way only
 pub number-once : (v w : ℕ) (x y : List ℕ) → NoDigit x → NoDigit y → text v ++ x ≡ text w ++ y → (v ≡ w) × (x ≡ y)

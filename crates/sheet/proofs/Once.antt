@@ -5,7 +5,8 @@ use Prim.Native.Nat.{ℕ, suc, _+_, _*_}
 use native.Mathlib.Omega.{arith}
 use lib.ListN.{length}
 use Rattle.sheet.specs.Sheet.{Labelled}
-use Rattle.sheet.specs.Reading.{Ended, State, After, heading, row-label, col-label, order-line, begun, withRow, withCol, withOrder, Outcome, good, wrong, Reads, done, short, unfit, next}
+use Rattle.sheet.specs.Reading.{Ended, State, After, heading, row-label, col-label, order-line, begun, withRow, withCol, withOrder}
+use Rattle.sheet.specs.Reading.{Outcome, good, wrong, Reads, done, short, unfit, next}
 use Rattle.sheet.proofs.Lines.{ended-once, unbroken-unended, none-unended, rank, heading-once, order-once}
 
 -- what a line says after those before it

@@ -5,7 +5,7 @@ use mathlib.Core.List.{List, [], _∷_, _++_, append-assoc, append-nil}
 use Prim.Native.Nat.{ℕ, zero, suc, _+_, _-_, _*_, _/_, _%_, _<_, _≤_}
 use native.Mathlib.Omega.{arith}
 use native.Mathlib.Decide.{ℕ-discrete}
-use native.Mathlib.Nat.{mul-add-div-right, div-eq-of-lt, mul-add-mod-self-right, mod-eq-of-lt, div-add-mod', div-lt-iff-lt-mul, mod-lt, mul-le-mul-right}
+use native.Mathlib.Nat.{mul-add-div-right, div-eq-of-lt, mul-add-mod-self-right, mod-eq-of-lt, div-add-mod', div-lt-iff-lt-mul, mod-lt}
 use borrow.Author.Tests.{ne-eqb, eqb-true}
 use lib.IntN.{ℤ, pos, negsuc}
 use lib.ListN.{length, getD, replicate, length-append, length-replicate, List·getD-append, getD-replicate}
@@ -13,8 +13,9 @@ use lib.Seq.{getD-append-add}
 use Rattle.theory.specs.Limits.{order}
 use Rattle.theory.specs.Table.{absent, Present, Order, Entries}
 use Rattle.theory.proofs.Signed.{signed}
-use Rattle.sheet.specs.Text.{ended}
-use Rattle.sheet.specs.Sheet.{isAbsent, presentCount, orderLine, orderLines, orderText, labelLines}
+pub use Rattle.orders.proofs.Places.{cell}
+use Rattle.sheet.specs.Text.{text, ended, rowsHead, colsHead, ordersHead}
+use Rattle.sheet.specs.Sheet.{Labelled, isAbsent, presentCount, orderText, labelLines, orderLines, headed, labelSection, sheetOf}
 use Rattle.sheet.proofs.Bytes.{clash}
 
 -- label lines of two lists one after the other
@@ -28,6 +29,25 @@ pub label-lines-one : (l : List ℕ) → labelLines (l ∷ []) ≡ ended l
 unfolding labelLines
 label-lines-one l = append-nil (ended l)
 
+-- a sheet's bytes, section by section
+headed-bytes : (h : List ℕ) (c : ℕ) (ls ks : List (List ℕ)) → labelLines (headed h c ls ++ ks) ≡ (ended (h ++ text c) ++ labelLines ls) ++ labelLines ks
+unfolding labelLines
+headed-bytes h c ls ks =
+    ap (λ x. ended (h ++ text c) ++ x) (label-lines-append ls ks) ∙ sym (append-assoc (ended (h ++ text c)) (labelLines ls) (labelLines ks))
+
+pub sheet-bytes : (t : Labelled)
+    → sheetOf t
+    ≡ labelSection rowsHead (t .row-labels)
+    ++ (labelSection colsHead (t .col-labels)
+    ++ (ended (ordersHead ++ text (presentCount (t .entries))) ++ labelLines (orderLines (length (t .row-labels)) 0 (t .entries))))
+unfolding labelLines
+sheet-bytes t =
+    let n = length (t .row-labels) in
+    let k = length (t .col-labels) in
+    let os = headed ordersHead (presentCount (t .entries)) (orderLines n 0 (t .entries)) in
+    headed-bytes rowsHead n (t .row-labels) (headed colsHead k (t .col-labels) ++ os)
+    ∙ ap (λ x. labelSection rowsHead (t .row-labels) ++ x) (headed-bytes colsHead k (t .col-labels) os)
+
 -- the test of an absent entry
 pub absent-is : (v : ℤ) → isAbsent v ≡ true → v ≡ absent
 absent-is (pos n) e = clash {t = false} e refl
@@ -40,23 +60,27 @@ pub order-present : (v : ℤ) → Order order v → isAbsent v ≡ false
 order-present (pos n) o = refl
 order-present (negsuc n) o = ne-eqb n 32767 (λ e. omega (arith, signed, o .low))
 
--- entries in two parts
+-- the lines of entries in two parts
+lines-by : (t : Bool) (l : List ℕ) (a b c : List (List ℕ)) → c ≡ a ++ b → cond t c (l ∷ c) ≡ cond t a (l ∷ a) ++ b
+lines-by true l a b c e = e
+lines-by false l a b c e = ap (λ x. l ∷ x) e
+
 pub lines-append : (n p : ℕ) (a b : List ℤ) → orderLines n p (a ++ b) ≡ orderLines n p a ++ orderLines n (p + length a) b
 unfolding orderLines
 lines-append n p [] b = let e : p ≡ p + 0 = omega arith in ap (λ q. orderLines n q b) e
 lines-append n p (v ∷ a) b =
     let e : suc p + length a ≡ p + length (v ∷ a) = omega arith in
-    ap (λ x. orderLine n p v ++ x) (lines-append n (suc p) a b ∙ ap (λ q. orderLines n (suc p) a ++ orderLines n q b) e)
-    ∙ sym (append-assoc (orderLine n p v) (orderLines n (suc p) a) (orderLines n (p + length (v ∷ a)) b))
+    lines-by (isAbsent v) (orderText (p / n) (p % n) v) (orderLines n (suc p) a) (orderLines n (p + length (v ∷ a)) b)
+    (orderLines n (suc p) (a ++ b)) (lines-append n (suc p) a b ∙ ap (λ q. orderLines n (suc p) a ++ orderLines n q b) e)
 
 pub lines-absent : (n p d : ℕ) → orderLines n p (replicate d absent) ≡ []
 unfolding orderLines
 lines-absent n p zero = refl
 lines-absent n p (suc d) = lines-absent n (suc p) d
 
-pub lines-one : (n p : ℕ) (v : ℤ) → isAbsent v ≡ false → orderLines n p (v ∷ []) ≡ ended (orderText (p / n) (p % n) v)
+pub lines-one : (n p : ℕ) (v : ℤ) → isAbsent v ≡ false → orderLines n p (v ∷ []) ≡ orderText (p / n) (p % n) v ∷ []
 unfolding orderLines
-lines-one n p v e = rw e (append-nil (ended (orderText (p / n) (p % n) v)))
+lines-one n p v e = rw e
 
 count-by : (t : Bool) (a b c : ℕ) → a ≡ b + c → cond t a (suc a) ≡ cond t b (suc b) + c
 count-by true a b c e = e
@@ -77,6 +101,16 @@ pub count-one : (v : ℤ) → isAbsent v ≡ false → presentCount (v ∷ []) �
 unfolding presentCount
 count-one v e = rw e
 
+-- at most every place is present
+pub count-le : (e : List ℤ) → presentCount e ≤ length e
+unfolding presentCount
+count-le [] = omega arith
+count-le (v ∷ e) = go (isAbsent v) (count-le e)
+  where
+    go : (t : Bool) → presentCount e ≤ length e → cond t (presentCount e) (suc (presentCount e)) ≤ suc (length e)
+    go true h = omega arith
+    go false h = omega arith
+
 -- the place of row i and column j
 module _ (n i j : ℕ) (inside : j < n) where
   pub place-row : (i * n + j) / n ≡ i
@@ -85,19 +119,16 @@ module _ (n i j : ℕ) (inside : j < n) where
   pub place-col : (i * n + j) % n ≡ j
   place-col = mul-add-mod-self-right i n j ∙ mod-eq-of-lt {n = j} {m = n} inside
 
-pub cell : (n i j : ℕ) → i < n → j < n → i * n + j < n * n
-cell n i j p q = let h : suc i * n ≤ n * n = mul-le-mul-right n p in let e : suc i * n ≡ i * n + n = native.Mathlib.Nat.suc-mul i n in omega arith
-
 -- the row and the column of place p
 module _ (n p : ℕ) (inside : p < n * n) where
-  some : 0 < n
-  some = elim (ℕ-discrete n 0) [ yes e ↦ absurd (let h : n * n ≡ 0 = rw e in omega arith) | no ne ↦ omega arith ]
+  pub some-row : 0 < n
+  some-row = elim (ℕ-discrete n 0) [ yes e ↦ absurd (let h : n * n ≡ 0 = rw e in omega arith) | no ne ↦ omega arith ]
 
   pub row-inside : p / n < n
-  row-inside = div-lt-iff-lt-mul {k = n} {x = p} {y = n} some .1 inside
+  row-inside = div-lt-iff-lt-mul {k = n} {x = p} {y = n} some-row .1 inside
 
   pub col-inside : p % n < n
-  col-inside = mod-lt p {m = n} some
+  col-inside = mod-lt p {m = n} some-row
 
   pub row-col : p / n * n + p % n ≡ p
   row-col = div-add-mod' p n

@@ -3,3 +3,5 @@ pub mod Text
 pub mod Labels
 pub mod Sheet
 pub mod Reading
+pub mod FirstWrong
+pub mod WrongSheets

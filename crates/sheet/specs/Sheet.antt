@@ -27,7 +27,7 @@ pub record Stands (t : Labelled) : Type 0 where
   pub cols-stand : Labels (t .col-labels)
   pub entries-stand : Entries order (t .entries)
 
--- "labels, one a line"
+-- "every line ended by one line feed": the bytes of lines
 unfoldable pub labelLines : List (List ℕ) → List ℕ
 labelLines [] = []
 labelLines (l ∷ ls) = ended l ++ labelLines ls
@@ -52,24 +52,31 @@ presentCount (v ∷ e) = cond (isAbsent v) (presentCount e) (suc (presentCount e
 abbrev pub orderText : ℕ → ℕ → ℤ → List ℕ
 orderText i j v = text (i + 1) ++ blank ∷ (text (j + 1) ++ blank ∷ signed v)
 
--- the line of an entry at place p of the table, where an absent one has none
-abbrev pub orderLine : ℕ → ℕ → ℤ → List ℕ
-orderLine n p v = cond (isAbsent v) [] (ended (orderText (p / n) (p % n) v))
-
--- "one for each present place, row before column, strictly rising": the entries from place p on
-unfoldable pub orderLines : ℕ → ℕ → List ℤ → List ℕ
+-- "K lines `i j v`, one for each present place, row before column, strictly rising": those of the entries from place p on
+unfoldable pub orderLines : ℕ → ℕ → List ℤ → List (List ℕ)
 orderLines n p [] = []
-orderLines n p (v ∷ e) = orderLine n p v ++ orderLines n (suc p) e
+orderLines n p (v ∷ e) = cond (isAbsent v) (orderLines n (suc p) e) (orderText (p / n) (p % n) v ∷ orderLines n (suc p) e)
 
--- "`rows N`, then N labels, one a line", and the same for `cols`
+-- a section, "each after its count": the lines ls after the heading with the count c
+abbrev pub headed : List ℕ → ℕ → List (List ℕ) → List (List ℕ)
+headed head c ls = (head ++ text c) ∷ ls
+
+-- the bytes of a section whose count is that of its lines
 abbrev pub labelSection : List ℕ → List (List ℕ) → List ℕ
 labelSection head ls = ended (head ++ text (length ls)) ++ labelLines ls
 
--- "`orders K`, then K lines"
-abbrev pub orderSection : ℕ → List ℤ → List ℕ
-orderSection n e = ended (ordersHead ++ text (presentCount e)) ++ orderLines n 0 e
+-- "Sections in a fixed order": "`rows N`, then N labels", "`cols N`, the same N, then N labels", "`orders K`, then K lines"; the lines of
+-- a table's sheet, with k written for K
+abbrev pub sheetLines : ℕ → Labelled → List (List ℕ)
+sheetLines k t =
+    headed rowsHead (length (t .row-labels)) (t .row-labels)
+    ++ (headed colsHead (length (t .col-labels)) (t .col-labels) ++ headed ordersHead k (orderLines (length (t .row-labels)) 0 (t .entries)))
 
 -- "So one table with labels has one sheet."
 abbrev pub sheetOf : Labelled → List ℕ
-sheetOf t =
-    labelSection rowsHead (t .row-labels) ++ (labelSection colsHead (t .col-labels) ++ orderSection (length (t .row-labels)) (t .entries))
+sheetOf t = labelLines (sheetLines (presentCount (t .entries)) t)
+
+-- the bytes s are the sheet of the labelled table t, which is within the limits
+pub record IsSheet (t : Labelled) (s : List ℕ) : Type 0 where
+  pub stands : Stands t
+  pub is : s ≡ sheetOf t

@@ -1,5 +1,5 @@
 -- The bytes of a sheet: numbers, headings, lines. "all ASCII, every line ended by one line feed".
-use Prim.Native.Nat.{ℕ, zero, suc, _+_, _/_, _%_, _<_}
+use Prim.Native.Nat.{ℕ, zero, suc, _+_, _/_, _%_, _≤_, _<_}
 use Prim.Native.Char.{code}
 use Prim.Native.String as string
 use Prim.Native.String.{String}
@@ -58,3 +58,10 @@ Each P l = (k : ℕ) → k < length l → P (getD l k 0)
 -- a room in which a text was written over the front, where "later entries and bytes stay"
 abbrev pub over : {A : Type 0} → List A → List A → List A
 over text room = text ++ drop (length text) room
+
+-- a decimal digit, and a text that does not begin with one
+abbrev pub Digit : ℕ → Type 0
+Digit b = (48 ≤ b) × (b ≤ 57)
+
+abbrev pub NoDigit : List ℕ → Type 0
+NoDigit s = 0 < length s → Digit (getD s 0 0) → ⊥

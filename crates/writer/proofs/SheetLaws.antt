@@ -7,12 +7,14 @@ use lib.IntN.{ℤ}
 use lib.ListN.{length, length-append}
 use Rattle.theory.specs.Limits.{order}
 use Rattle.theory.specs.Table.{Entries}
+use Rattle.orders.specs.Places.{Square}
 use Rattle.orders.specs.Refusals.{gives, refuses}
 use Rattle.handed.specs.Conditions.{OutOfSize}
 use Rattle.handed.proofs.Basics.{sized}
-use Rattle.sheet.specs.Text.{text, ended, rowsHead, colsHead, ordersHead, over}
-use Rattle.sheet.specs.Sheet.{Labelled, labelLines, presentCount, orderLines, orderSection, sheetOf}
-use Rattle.writer.specs.Parts.{labelsOf, BufferStands, Tested, restText, sheetText}
+use Rattle.sheet.specs.Text.{feed, text, ended, rowsHead, colsHead, ordersHead, over}
+use Rattle.sheet.specs.Sheet.{Labelled, labelLines, presentCount, sheetOf}
+use Rattle.writer.specs.Parts.{labelsOf, BufferStands, labelSection, orderBytes, orderSection, restText, sheetText}
+use Rattle.sheet.proofs.Orders.{sheet-bytes}
 use Rattle.lettering.specs.Putting.{Puts}
 use Rattle.writer.specs.Promise.{model, Wanted, Labelling, WritePromise, wrote}
 use Rattle.writer.proofs.Refusing.{refuse-room, all-clear}
@@ -20,22 +22,23 @@ use Rattle.writer.proofs.SlotLaws.{labels-count, buffer-slots, buffer-l
 
 -- the length of the sheet, section by section
 head-length : (h : List ℕ) (n : ℕ) → length (ended (h ++ text n)) ≡ length h + length (text n) + 1
-head-length h n = length-append (h ++ text n) (10 ∷ []) ∙ omega (arith, length-append h (text n))
+head-length h n = length-append (h ++ text n) (feed ∷ []) ∙ omega (arith, length-append h (text n))
+
+labels-length : (h : List ℕ) (n : ℕ) (b : List ℕ) → length (labelSection h n b) ≡ length h + length (text n) + 1 + length (labelLines (labelsOf n b))
+labels-length h n b = length-append (ended (h ++ text n)) (labelLines (labelsOf n b)) ∙ omega (arith, head-length h n)
 
 pub sheet-text-length : (n : ℕ) (t : List ℤ) (r c : List ℕ)
     → length (sheetText n t r c)
     ≡ length (text n) + 6 + length (labelLines (labelsOf n r)) + (length (text n) + 6 + length (labelLines (labelsOf n c)))
-    + (length (text (presentCount t)) + 8 + length (orderLines n 0 t))
+    + (length (text (presentCount t)) + 8 + length (orderBytes n 0 t))
 sheet-text-length n t r c =
-    length-append (ended (rowsHead ++ text n) ++ labelLines (labelsOf n r)) (restText n t c)
+    length-append (labelSection rowsHead n r) (restText n t c)
     ∙ omega (
       arith,
-      length-append (ended (rowsHead ++ text n)) (labelLines (labelsOf n r)),
-      length-append (ended (colsHead ++ text n) ++ labelLines (labelsOf n c)) (orderSection n t),
-      length-append (ended (colsHead ++ text n)) (labelLines (labelsOf n c)),
-      length-append (ended (ordersHead ++ text (presentCount t))) (orderLines n 0 t),
-      head-length rowsHead n,
-      head-length colsHead n,
+      labels-length rowsHead n r,
+      labels-length colsHead n c,
+      length-append (labelSection colsHead n c) (orderSection n t),
+      length-append (ended (ordersHead ++ text (presentCount t))) (orderBytes n 0 t),
       head-length ordersHead (presentCount t),
     )
 
@@ -44,20 +47,13 @@ abbrev pub labelled : ℕ → List ℤ → List ℕ → List ℕ → Labelled
 labelled n t r c = record { row-labels = labelsOf n r; col-labels = labelsOf n c; entries = t }
 
 pub sheet-text : (n : ℕ) (t : List ℤ) (r c : List ℕ) → sheetText n t r c ≡ sheetOf (labelled n t r c)
-sheet-text n t r c =
-    ap (λ x. (ended (rowsHead ++ text x) ++ labelLines (labelsOf n r)) ++ restText n t c) (sym (labels-count n r))
-    ∙ ap
-    (λ x. (ended (rowsHead ++ text (length (labelsOf n r))) ++ labelLines (labelsOf n r)) ++ ((ended (colsHead ++ text x) ++ labelLines (labelsOf n c)) ++ orderSection n t))
-    (sym (labels-count n c))
-    ∙ ap
-    (λ x. (ended (rowsHead ++ text (length (labelsOf n r))) ++ labelLines (labelsOf n r)) ++ ((ended (colsHead ++ text (length (labelsOf n c))) ++ labelLines (labelsOf n c)) ++ orderSection x t))
-    (sym (labels-count n r))
+sheet-text n t r c = rw (sheet-bytes (labelled n t r c), labels-count n r, labels-count n c)
 
 -- the tests, one after the other
 module _ (n : ℕ) (t : List ℤ) (r c : List ℕ) where
   module _ (s : OutOfSize n → ⊥) (w : Wanted (model n t r c)) where
-    pub tested : Entries order t → Tested n t
-    tested e = record { some = sized s .0; few = sized s .1; square = w .table-length; entries-stand = e }
+    pub square : Square t n
+    square = record { small = sized s .1; square = w .table-length }
 
     -- buffers that stand hold a labelled table, and others hold none
     pub labelling : BufferStands n r → BufferStands n c → Labelling (model n t r c) (labelled n t r c)

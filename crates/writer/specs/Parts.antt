@@ -3,14 +3,12 @@ use mathlib.Core.Path.{_≡_}
 use mathlib.Core.Logic.{_≢_}
 use mathlib.Core.Bool.{cond}
 use mathlib.Core.List.{List, [], _∷_, _++_}
-use Prim.Native.Nat.{ℕ, zero, suc, _+_, _*_, _≤_, _<_}
+use Prim.Native.Nat.{ℕ, zero, suc, _+_, _*_, _/_, _%_, _≤_, _<_}
 use lib.Dec.{eqb}
 use lib.IntN.{ℤ}
 use lib.ListN.{length, getD, take, drop}
-use Rattle.theory.specs.Limits.{rows, order}
-use Rattle.theory.specs.Table.{Present, Order, Entries}
-use Rattle.sheet.specs.Text.{text, ended, rowsHead, colsHead}
-use Rattle.sheet.specs.Sheet.{labelLines, orderSection}
+use Rattle.sheet.specs.Text.{blank, text, signed, ended, rowsHead, colsHead, ordersHead}
+use Rattle.sheet.specs.Sheet.{isAbsent, presentCount, orderText, labelLines, orderLines}
 use Rattle.sheet.specs.Labels.{width, Form, slot}
 
 -- the bytes before the first zero byte
@@ -33,23 +31,40 @@ pub record BufferStands (n : ℕ) (b : List ℕ) : Type 0 where
   pub forms : (k : ℕ) → k < n → SlotStands (slot b k)
   pub apart : (i k : ℕ) → i < k → k < n → slot b i ≢ slot b k
 
--- a table that was tested: its size, its length and its entries
-pub record Tested (n : ℕ) (t : List ℤ) : Type 0 where
-  pub some : 1 ≤ n
-  pub few : n ≤ rows
-  pub square : length t ≡ n * n
-  pub entries-stand : Entries order t
+-- a section of labels: its heading with the count n, and the labels in the first n places of a buffer
+abbrev pub labelSection : List ℕ → ℕ → List ℕ → List ℕ
+labelSection head n b = ended (head ++ text n) ++ labelLines (labelsOf n b)
 
--- an entry that was tested, at a place of the table
-pub record EntryTested (n p : ℕ) (v : ℤ) : Type 0 where
-  pub some : 1 ≤ n
-  pub few : n ≤ rows
-  pub place : p < n * n
-  pub stands : Present v → Order order v
+-- the bytes of the order lines from place p on; those of one entry, none where it is absent; and the end of such a line
+abbrev pub orderBytes : ℕ → ℕ → List ℤ → List ℕ
+orderBytes n p e = labelLines (orderLines n p e)
+
+abbrev pub entryBytes : ℕ → ℕ → ℤ → List ℕ
+entryBytes n p v = cond (isAbsent v) [] (ended (orderText (p / n) (p % n) v))
+
+abbrev pub orderEnd : ℕ → ℕ → ℤ → List ℕ
+orderEnd n p v = (text (p % n + 1) ++ blank ∷ []) ++ ended (signed v)
 
 -- the sheet of what is handed, as it is written section by section
+abbrev pub orderSection : ℕ → List ℤ → List ℕ
+orderSection n t = ended (ordersHead ++ text (presentCount t)) ++ orderBytes n 0 t
+
 abbrev pub restText : ℕ → List ℤ → List ℕ → List ℕ
-restText n t c = (ended (colsHead ++ text n) ++ labelLines (labelsOf n c)) ++ orderSection n t
+restText n t c = labelSection colsHead n c ++ orderSection n t
 
 abbrev pub sheetText : ℕ → List ℤ → List ℕ → List ℕ → List ℕ
-sheetText n t r c = (ended (rowsHead ++ text n) ++ labelLines (labelsOf n r)) ++ restText n t c
+sheetText n t r c = labelSection rowsHead n r ++ restText n t c
+
+-- No sum of lengths passes 64 bits: the most bytes of a label line, of a number of 64 bits, of one of 16 bits with its sign, and of an
+-- order line with its two blanks and its line feed.
+abbrev pub label-most : ℕ
+label-most = width + 1
+
+abbrev pub number-most : ℕ
+number-most = 20
+
+abbrev pub value-most : ℕ
+value-most = 6
+
+abbrev pub line-most : ℕ
+line-most = number-most + number-most + value-most + 3

@@ -1,15 +1,15 @@
 ghost use mathlib.Core.Path.{_≡_};
-ghost use mathlib.Core.List.{[], _∷_, _++_};
-ghost use Prim.Native.Nat.{ℕ, _+_, _*_, _/_, _%_, _<_, _≤_};
+ghost use Prim.Native.Nat.{ℕ, _*_, _<_, _≤_};
 ghost use lib.ListN.{length, getD};
 ghost use Rattle.orders.specs.Tested.{Tells};
-ghost use Rattle.theory.specs.Limits.{order, rows as limit};
+ghost use Rattle.orders.specs.Places.{Square};
+ghost use Rattle.theory.specs.Limits.{rows as limit};
 ghost use Rattle.sheet.specs.Labels.{width};
-ghost use Rattle.theory.specs.Table.{Order};
-ghost use Rattle.sheet.specs.Text.{text, signed, ended, blank};
-ghost use Rattle.sheet.specs.Sheet.{presentCount, labelLines, orderLine, orderLines, orderSection};
+ghost use Rattle.sheet.specs.Text.{signed, ended};
+ghost use Rattle.sheet.specs.Sheet.{presentCount, labelLines};
 ghost use Rattle.lettering.specs.Putting.{Puts};
-ghost use Rattle.writer.specs.Parts.{labelOf, labelsOf, SlotStands, BufferStands, Tested, EntryTested, restText, sheetText};
+ghost use Rattle.writer.specs.Parts.{labelOf, labelsOf, SlotStands, BufferStands, labelSection, orderBytes, entryBytes};
+ghost use Rattle.writer.specs.Parts.{orderEnd, orderSection, restText, sheetText, label-most, value-most, line-most};
 ghost use Rattle.writer.specs.Promise.{WritePromise, model, says};
 use lettering::digits;
 use lettering::magnitude;
@@ -93,7 +93,7 @@ fn labels_stand(n: usize, labels: &[u8]) -> bool
 // The bytes of the label lines. Rules out every other number: the room is measured by it.
 fn labels_length(n: usize, labels: &[u8]) -> usize
     requires { ⌜ (n ≤ limit) × (width * n ≤ length (now labels)) ⌝ }
-    ensures { λ r. ⌜ (r ≡ length (labelLines (labelsOf n (now (labels .entry))))) × (r ≤ 9 * n) ⌝ }
+    ensures { λ r. ⌜ (r ≡ length (labelLines (labelsOf n (now (labels .entry))))) × (r ≤ label-most * n) ⌝ }
 {
     let mut sum: usize = 0;
     let mut k = 0;
@@ -150,8 +150,7 @@ fn present_count(table: &[i16]) -> usize
 
 // The bytes of an order. Rules out every other number.
 fn value_length(v: i16) -> usize
-    requires { ⌜ Order order v ⌝ }
-    ensures { λ r. ⌜ (r ≡ length (signed v)) × (r ≤ 4) ⌝ }
+    ensures { λ r. ⌜ (r ≡ length (signed v)) × (r ≤ value-most) ⌝ }
 {
     let size = magnitude(v as i32);
     if v < 0 {
@@ -162,8 +161,8 @@ fn value_length(v: i16) -> usize
 
 // The bytes of the line of place p. Rules out every other number.
 fn order_length(n: usize, p: usize, v: i16) -> usize
-    requires { ⌜ EntryTested n p v ⌝ }
-    ensures { λ r. ⌜ (r ≡ length (orderLine n p v)) × (r ≤ 16) ⌝ }
+    requires { ⌜ p < n * n ⌝ }
+    ensures { λ r. ⌜ (r ≡ length (entryBytes n p v)) × (r ≤ line-most) ⌝ }
 {
     if v == ABSENT {
         return 0;
@@ -173,8 +172,8 @@ fn order_length(n: usize, p: usize, v: i16) -> usize
 
 // The column and the order of a line. Rules out a column counted from 0.
 fn put_order_end(n: usize, p: usize, v: i16, out: &mut [u8]) -> usize
-    requires { ⌜ (1 ≤ n) × (n ≤ limit) × (Order order v) × (length ((text (p % n + 1) ++ blank ∷ []) ++ ended (signed v)) ≤ length (now out)) ⌝ }
-    ensures { λ r. ⌜ Puts ((text (p % n + 1) ++ blank ∷ []) ++ ended (signed v)) (now (out .entry)) (now (out .exit)) r ⌝ }
+    requires { ⌜ (1 ≤ n) × (length (orderEnd n p v) ≤ length (now out)) ⌝ }
+    ensures { λ r. ⌜ Puts (orderEnd n p v) (now (out .entry)) (now (out .exit)) r ⌝ }
 {
     let a = put_count(p % n + 1, BLANK, out);
     let b = put_value_line(v as i32, &mut out[a..]);
@@ -184,8 +183,8 @@ fn put_order_end(n: usize, p: usize, v: i16, out: &mut [u8]) -> usize
 // The line of place p in the room; none where the place is absent. Rules out a row counted from 0, and a line for an absent
 // place.
 fn put_order(n: usize, p: usize, v: i16, out: &mut [u8]) -> usize
-    requires { ⌜ (EntryTested n p v) × (length (orderLine n p v) ≤ length (now out)) ⌝ }
-    ensures { λ r. ⌜ Puts (orderLine n p v) (now (out .entry)) (now (out .exit)) r ⌝ }
+    requires { ⌜ (p < n * n) × (length (entryBytes n p v) ≤ length (now out)) ⌝ }
+    ensures { λ r. ⌜ Puts (entryBytes n p v) (now (out .entry)) (now (out .exit)) r ⌝ }
 {
     if v == ABSENT {
         return 0;
@@ -197,8 +196,8 @@ fn put_order(n: usize, p: usize, v: i16, out: &mut [u8]) -> usize
 
 // The bytes of the order lines. Rules out every other number.
 fn orders_length(n: usize, table: &[i16]) -> usize
-    requires { ⌜ Tested n (now table) ⌝ }
-    ensures { λ r. ⌜ (r ≡ length (orderLines n 0 (now (table .entry)))) × (r ≤ 16384) ⌝ }
+    requires { ⌜ Square (now table) n ⌝ }
+    ensures { λ r. ⌜ (r ≡ length (orderBytes n 0 (now (table .entry)))) × (r ≤ line-most * length (now (table .entry))) ⌝ }
 {
     let mut sum: usize = 0;
     let mut p = 0;
@@ -211,8 +210,8 @@ fn orders_length(n: usize, table: &[i16]) -> usize
 
 // The order lines in the room, row before column. Rules out a present place left out, and lines in another order.
 fn put_orders(n: usize, table: &[i16], out: &mut [u8]) -> usize
-    requires { ⌜ (Tested n (now table)) × (length (orderLines n 0 (now table)) ≤ length (now out)) ⌝ }
-    ensures { λ r. ⌜ Puts (orderLines n 0 (now (table .entry))) (now (out .entry)) (now (out .exit)) r ⌝ }
+    requires { ⌜ (length (now table) ≡ n * n) × (length (orderBytes n 0 (now table)) ≤ length (now out)) ⌝ }
+    ensures { λ r. ⌜ Puts (orderBytes n 0 (now (table .entry))) (now (out .entry)) (now (out .exit)) r ⌝ }
 {
     let mut at: usize = 0;
     let mut p = 0;
@@ -225,8 +224,8 @@ fn put_orders(n: usize, table: &[i16], out: &mut [u8]) -> usize
 
 // A section of labels in the room. Rules out another count than that of the lines.
 fn put_label_section(head: &[u8], n: usize, labels: &[u8], out: &mut [u8]) -> usize
-    requires { ⌜ (width * n ≤ length (now labels)) × (length (ended (now head ++ text n) ++ labelLines (labelsOf n (now labels))) ≤ length (now out)) ⌝ }
-    ensures { λ r. ⌜ Puts (ended (now (head .entry) ++ text n) ++ labelLines (labelsOf n (now (labels .entry)))) (now (out .entry)) (now (out .exit)) r ⌝ }
+    requires { ⌜ (width * n ≤ length (now labels)) × (length (labelSection (now head) n (now labels)) ≤ length (now out)) ⌝ }
+    ensures { λ r. ⌜ Puts (labelSection (now (head .entry)) n (now (labels .entry))) (now (out .entry)) (now (out .exit)) r ⌝ }
 {
     let a = put_heading(head, n, out);
     let b = put_labels(n, labels, &mut out[a..]);
@@ -235,7 +234,7 @@ fn put_label_section(head: &[u8], n: usize, labels: &[u8], out: &mut [u8]) -> us
 
 // The section of orders in the room. Rules out the same.
 fn put_order_section(n: usize, table: &[i16], out: &mut [u8]) -> usize
-    requires { ⌜ (Tested n (now table)) × (length (orderSection n (now table)) ≤ length (now out)) ⌝ }
+    requires { ⌜ (length (now table) ≡ n * n) × (length (orderSection n (now table)) ≤ length (now out)) ⌝ }
     ensures { λ r. ⌜ Puts (orderSection n (now (table .entry))) (now (out .entry)) (now (out .exit)) r ⌝ }
 {
     let count = present_count(table);
@@ -246,7 +245,7 @@ fn put_order_section(n: usize, table: &[i16], out: &mut [u8]) -> usize
 
 // The bytes of the sheet. Rules out every other number: refusal 12 is told by it.
 fn sheet_length(n: usize, table: &[i16], rows: &[u8], cols: &[u8]) -> usize
-    requires { ⌜ (Tested n (now table)) × (width * n ≤ length (now rows)) × (width * n ≤ length (now cols)) ⌝ }
+    requires { ⌜ (Square (now table) n) × (width * n ≤ length (now rows)) × (width * n ≤ length (now cols)) ⌝ }
     ensures { λ r. ⌜ r ≡ length (sheetText n (now (table .entry)) (now (rows .entry)) (now (cols .entry))) ⌝ }
 {
     let head = digits(n) + 6;
@@ -258,7 +257,8 @@ fn sheet_length(n: usize, table: &[i16], rows: &[u8], cols: &[u8]) -> usize
 
 // The sections from `cols` on in the room. Rules out labels of the rows under `cols`.
 fn put_rest(n: usize, table: &[i16], cols: &[u8], out: &mut [u8]) -> usize
-    requires { ⌜ (Tested n (now table)) × (width * n ≤ length (now cols)) × (length (restText n (now table) (now cols)) ≤ length (now out)) ⌝ }
+    requires { ⌜ (length (now table) ≡ n * n) × (width * n ≤ length (now cols))
+        × (length (restText n (now table) (now cols)) ≤ length (now out)) ⌝ }
     ensures { λ r. ⌜ Puts (restText n (now (table .entry)) (now (cols .entry))) (now (out .entry)) (now (out .exit)) r ⌝ }
 {
     let a = put_label_section(b"cols ", n, cols, out);
@@ -269,7 +269,8 @@ fn put_rest(n: usize, table: &[i16], cols: &[u8], out: &mut [u8]) -> usize
 // The sheet in the room: each section in the room that the sections before it left free. Rules out every other text, and a byte
 // changed behind it.
 fn put_sheet(n: usize, table: &[i16], rows: &[u8], cols: &[u8], out: &mut [u8]) -> usize
-    requires { ⌜ (Tested n (now table)) × (width * n ≤ length (now rows)) × (width * n ≤ length (now cols)) × (length (sheetText n (now table) (now rows) (now cols)) ≤ length (now out)) ⌝ }
+    requires { ⌜ (length (now table) ≡ n * n) × (width * n ≤ length (now rows)) × (width * n ≤ length (now cols))
+        × (length (sheetText n (now table) (now rows) (now cols)) ≤ length (now out)) ⌝ }
     ensures { λ r. ⌜ Puts (sheetText n (now (table .entry)) (now (rows .entry)) (now (cols .entry))) (now (out .entry)) (now (out .exit)) r ⌝ }
 {
     let a = put_label_section(b"rows ", n, rows, out);
@@ -281,7 +282,8 @@ fn put_sheet(n: usize, table: &[i16], rows: &[u8], cols: &[u8], out: &mut [u8]) 
 // writes any but the one sheet of what it was handed, that writes into a room before it knows that the sheet fits, or that touches
 // bytes after the sheet.
 pub fn write_sheet(n: usize, table: &[i16], rows: &[u8], cols: &[u8], out: &mut [u8]) -> Written
-    ensures { λ r. ⌜ WritePromise (model n (now (table .entry)) (now (rows .entry)) (now (cols .entry))) (now (out .entry)) (now (out .exit)) (says r) ⌝ }
+    ensures { λ r. ⌜ WritePromise (model n (now (table .entry)) (now (rows .entry)) (now (cols .entry)))
+        (now (out .entry)) (now (out .exit)) (says r) ⌝ }
 {
     if n == 0 {
         return Written::Refused(Refusal::Size);

@@ -32,7 +32,9 @@ letter-or-digit-requires : tie.Need-letter-or-digit-requires Inv-loop μ-loop
 letter-or-digit-requires c κs = search needs
 
 returns-3 : tie.Need-returns-3 Inv-loop μ-loop
-returns-3 c = tells-no (λ f. c .before .letter-or-digit .ensures .fails (not-true _ (c .if3 .taken)) (f .letters (c .before .before .before .before .loop .i) (omega arith)))
+returns-3 c =
+    let loop′ = c .before .before .before .before .loop in
+    tells-no (λ f. c .before .letter-or-digit .ensures .fails (not-true _ (c .if3 .taken)) (f .letters (loop′ .i) (omega arith)))
 
 add-i : tie.Need-add-i Inv-loop μ-loop
 add-i c = search needs
@@ -41,7 +43,9 @@ loop-less : tie.Need-loop-less Inv-loop μ-loop
 loop-less c = search needs
 
 loop-again : tie.Need-loop-again Inv-loop μ-loop
-loop-again c = (omega arith, below-more _ _ (c .before .before .before .before .loop .inv .1) (c .before .letter-or-digit .ensures .holds (not-false _ (c .if3 .left))))
+loop-again c =
+    let loop′ = c .before .before .before .before .loop in
+    (omega arith, below-more _ _ (loop′ .inv .1) (c .before .letter-or-digit .ensures .holds (not-false _ (c .if3 .left))))
 
 returns-4 : tie.Need-returns-4 Inv-loop μ-loop
 returns-4 c = tells-yes (record { some = omega arith; few = omega arith; letters = λ k h. c .before .loop .inv .1 k (omega arith) })

@@ -23,10 +23,12 @@ returns-5 : tie.Need-returns-5
 returns-5 c = tells-no (λ d. letter-gap-2 (c .before .before .before .before .before .args .b) (omega arith) (omega arith) d)
 
 returns-6 : tie.Need-returns-6
-returns-6 c = record {
-  holds = λ e. small (omega arith) (leb-true (c .before .before .before .before .before .args .b) 122 e);
-  fails = λ e d. omega (arith, leb-false (c .before .before .before .before .before .args .b) 122 e, letter-high (c .before .before .before .before .before .args .b) d);
-}
+returns-6 c =
+    let b = c .before .before .before .before .before .args .b in
+    record {
+      holds = λ e. small (omega arith) (leb-true b 122 e);
+      fails = λ e d. omega (arith, leb-false b 122 e, letter-high b d);
+    }
 
 pub letter-or-digit-spec : {M : Type 1} → statement M
 letter-or-digit-spec =

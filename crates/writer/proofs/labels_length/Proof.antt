@@ -4,20 +4,36 @@ use native.Mathlib.Omega.{arith}
 use Prim.Native.Nat.{_+_, _-_, _*_, _≤_}
 use mathlib.Core.Path.{_≡_, refl, ap, _∙_}
 use lib.ListN.{length, length-append}
-use Rattle.writer.proofs.SlotLaws.{label-le, slot-length, label-line-next, line-length}
-use Rattle.sheet.specs.Labels.{slot}
+use Rattle.theory.specs.Limits.{rows}
+use Rattle.sheet.specs.Labels.{width, slot}
 use Rattle.sheet.specs.Sheet.{labelLines}
 use Rattle.sheet.specs.Text.{ended}
 use Rattle.sheet.proofs.Slots.{part-slot}
-use Rattle.writer.specs.Parts.{labelOf, labelsOf}
+use Rattle.writer.specs.Parts.{labelOf, labelsOf, label-most}
+use Rattle.writer.proofs.SlotLaws.{label-le, slot-length, label-line-next, line-length}
 use Rattle.writer.proofs.labels_length.Statement.{statement}
 use Rattle.writer.proofs.labels_length.Tie as tie
 
 abbrev Inv-loop : tie.InvT-loop
-Inv-loop n labels sum₀ k₀ sum k = (k ≤ n) × (n ≤ 32) × (8 * n ≤ length labels) × (sum ≡ length (labelLines (labelsOf k labels))) × (sum ≤ 9 * k)
+Inv-loop n labels sum₀ k₀ sum k =
+    (k ≤ n)
+    × (n ≤ rows)
+    × (width * n ≤ length labels)
+    × (sum ≡ length (labelLines (labelsOf k labels)))
+    × (sum ≤ label-most * k)
 
 abbrev μ-loop : tie.MeasureT-loop
 μ-loop n labels sum₀ k₀ sum k = n - k
+
+-- what is measured is label k, of 8 bytes at most
+told : (c : tie.After-label-length Inv-loop μ-loop)
+    → (c .label-length .result ≡ length (labelOf (slot (c .before .before .before .before .before .args .labels .now) (c .before .before .before .loop .k))))
+    × (c .label-length .result ≤ width)
+told c =
+    let b = c .before .before .before .before .before .args .labels .now in
+    let k = c .before .before .before .loop .k in
+    let e = c .label-length .ensures ∙ ap (λ x. length (labelOf x)) (part-slot b (width * k) (width * k + width) k refl refl) in
+    (e, omega (arith, label-le (slot b k), slot-length b k (omega arith)))
 
 loop-holds : tie.Need-loop-holds Inv-loop μ-loop
 unfolding labelsOf labelLines
@@ -42,30 +58,10 @@ label-length-requires : tie.Need-label-length-requires Inv-loop μ-loop
 label-length-requires c κs = search needs
 
 add-sum : tie.Need-add-sum Inv-loop μ-loop
-add-sum c = let label-length′ = c .label-length in
-    let args′ = c .before .before .before .before .before .args in
-    let loop′ = c .before .before .before .loop in
-    omega (
-      arith,
-      (label-length′ .ensures ∙ ap (λ x. length (labelOf x)) (part-slot (args′ .labels .now) (8 * loop′ .k) (8 *
-          loop′ .k + 8) (loop′ .k) refl refl)),
-      label-le (slot (args′ .labels .now) (loop′ .k)),
-      slot-length (args′ .labels .now)
-          (loop′ .k) (omega arith),
-    )
+add-sum c = omega (arith, told c .1)
 
 add-sum-2 : tie.Need-add-sum-2 Inv-loop μ-loop
-add-sum-2 c = let label-length′ = c .label-length in
-    let args′ = c .before .before .before .before .before .args in
-    let loop′ = c .before .before .before .loop in
-    omega (
-      arith,
-      (label-length′ .ensures ∙ ap (λ x. length (labelOf x)) (part-slot (args′ .labels .now) (8 * loop′ .k) (8 *
-          loop′ .k + 8) (loop′ .k) refl refl)),
-      label-le (slot (args′ .labels .now) (loop′ .k)),
-      slot-length (args′ .labels .now)
-          (loop′ .k) (omega arith),
-    )
+add-sum-2 c = omega (arith, told c .1)
 
 add-k : tie.Need-add-k Inv-loop μ-loop
 add-k c = search needs
@@ -74,44 +70,30 @@ loop-less : tie.Need-loop-less Inv-loop μ-loop
 loop-less c = search needs
 
 loop-again : tie.Need-loop-again Inv-loop μ-loop
-loop-again c = let loop′ = c .before .before .before .loop in
-    let args′ = c .before .before .before .before .before .args in
-    let label-length′ = c .label-length in
-    let l = loop′ in
-    let b = args′ .labels .now in
-    let q : length (labelOf (slot b (l .k))) ≤ 8 = omega (
-      arith,
-      label-le (slot (args′ .labels .now) (loop′ .k)),
-      slot-length
-          (args′ .labels .now) (loop′ .k) (omega arith),
-    ) in (
+loop-again c =
+    let l = c .before .before .before .loop in
+    let b = c .before .before .before .before .before .args .labels .now in
+    let label = labelOf (slot b (l .k)) in (
       omega arith,
       l .inv .1,
       l .inv .2,
       omega (
         arith,
-        (label-length′ .ensures ∙ ap (λ x. length (labelOf x)) (part-slot (args′ .labels .now) (8 * loop′ .k) (8 *
-            loop′ .k + 8) (loop′ .k) refl refl)),
+        told c .0,
         l .inv .3,
-        ap length (label-line-next (loop′ .k) (args′ .labels .now)),
-        length-append
-            (labelLines (labelsOf (l .k) b)) (ended (labelOf (slot b (l .k)))),
-        line-length (labelOf (slot b (l .k))),
+        ap length (label-line-next (l .k) b),
+        length-append (labelLines (labelsOf (l .k) b)) (ended label),
+        line-length label,
       ),
-      omega (
-        arith,
-        (label-length′ .ensures ∙ ap (λ x. length (labelOf x)) (part-slot (args′ .labels .now) (8 * loop′ .k) (8 *
-            loop′ .k + 8) (loop′ .k) refl refl)),
-        l .inv .4,
-      ),
+      omega (arith, told c .1, l .inv .4),
     )
 
 returns : tie.Need-returns Inv-loop μ-loop
-returns c = let loop′ = c .before .loop in
-    let args′ = c .before .before .before .args in
-    let l = loop′ in
-    let e : l .k ≡ args′ .n = omega arith in
-    (l .inv .3 ∙ ap (λ x. length (labelLines (labelsOf x (args′ .labels .now)))) e, omega (arith, l .inv .4))
+returns c =
+    let l = c .before .loop in
+    let s = c .before .before .before in
+    let e : l .k ≡ s .args .n = omega arith in
+    (l .inv .3 ∙ ap (λ x. length (labelLines (labelsOf x (s .args .labels .now)))) e, omega (arith, l .inv .4))
 
 pub labels-length-spec : {M : Type 1} → statement M
 labels-length-spec =

@@ -1,25 +1,56 @@
 -- The label lines so far are written, and the tail of the room is lent on. Assumes nothing.
 use borrow.Author.Needs.{needs}
 use native.Mathlib.Omega.{arith}
-use Prim.Native.Nat.{_+_, _-_, _*_, _≤_}
+use Prim.Native.Nat.{ℕ, _+_, _-_, _*_, _≤_}
 use mathlib.Core.Path.{_≡_, refl, sym, ap}
-use lib.ListN.{length, length-append}
-use Rattle.writer.proofs.SlotLaws.{lines-mono, label-line-next}
-use Rattle.lettering.proofs.PutLaws.{puts-none, puts-same, puts-length, puts-tail, left-room}
-use Rattle.sheet.specs.Labels.{slot}
+use mathlib.Core.List.{List}
+use lib.ListN.{length, take, drop}
+use Rattle.lettering.specs.Putting.{Puts}
+use Rattle.lettering.proofs.PutLaws.{puts-none, puts-same, puts-length, FirstPut, tail-inside, tail-room, total-fits, both-put}
+use Rattle.sheet.specs.Labels.{width, slot}
 use Rattle.sheet.specs.Sheet.{labelLines}
 use Rattle.sheet.specs.Text.{ended}
 use Rattle.sheet.proofs.Slots.{part-slot}
 use Rattle.writer.specs.Parts.{labelOf, labelsOf}
-use Rattle.lettering.specs.Putting.{Puts}
+use Rattle.writer.proofs.SlotLaws.{lines-mono, label-line-next}
 use Rattle.writer.proofs.put_labels.Statement.{statement}
 use Rattle.writer.proofs.put_labels.Tie as tie
 
 abbrev Inv-loop : tie.InvT-loop
-Inv-loop n labels out₀ at₀ k₀ out at k = (k ≤ n) × (8 * n ≤ length labels) × (length (labelLines (labelsOf n labels)) ≤ length out₀) × (length out ≡ length out₀) × Puts (labelLines (labelsOf k labels)) out₀ out at
+Inv-loop n labels out₀ at₀ k₀ out at k =
+    (k ≤ n)
+    × (width * n ≤ length labels)
+    × (length (labelLines (labelsOf n labels)) ≤ length out₀)
+    × (length out ≡ length out₀)
+    × Puts (labelLines (labelsOf k labels)) out₀ out at
 
 abbrev μ-loop : tie.MeasureT-loop
 μ-loop n labels out₀ at₀ k₀ out at k = n - k
+
+-- the buffer, the place k in it, and the line of the label there
+abbrev start : tie.In-loop Inv-loop μ-loop → tie.Start Inv-loop μ-loop
+start c = c .before .before .before .before
+
+abbrev buffer : tie.In-loop Inv-loop μ-loop → List ℕ
+buffer c = start c .args .labels .now
+
+abbrev place : tie.In-loop Inv-loop μ-loop → ℕ
+place c = c .before .loop .k
+
+abbrev line : tie.In-loop Inv-loop μ-loop → List ℕ
+line c = ended (labelOf (slot (buffer c) (place c)))
+
+lent : (c : tie.In-loop Inv-loop μ-loop)
+    → ended (labelOf (take (width * place c + width - width * place c) (drop (width * place c) (buffer c)))) ≡ line c
+lent c = ap (λ x. ended (labelOf x)) (part-slot (buffer c) (width * place c) (width * place c + width) (place c) refl refl)
+
+-- the lines with one label more fit where all do
+more-fits : (c : tie.In-loop Inv-loop μ-loop) → length (labelLines (labelsOf (place c + 1) (buffer c))) ≤ length (start c .args .out .now)
+more-fits c = omega (arith, lines-mono (place c + 1) (start c .args .n) (buffer c) (omega arith), c .before .loop .inv .2)
+
+first-put : (c : tie.In-loop Inv-loop μ-loop)
+    → FirstPut (labelLines (labelsOf (place c) (buffer c))) (line c) (start c .args .out .now) (c .before .loop .out) (c .before .loop .at)
+first-put c = record { put = c .before .loop .inv .4; fits = omega (arith, more-fits c, ap length (label-line-next (place c) (buffer c))) }
 
 loop-holds : tie.Need-loop-holds Inv-loop μ-loop
 unfolding labelsOf labelLines
@@ -41,52 +72,21 @@ part-put-label-end : tie.Need-part-put-label-end Inv-loop μ-loop
 part-put-label-end c = search needs
 
 sub-put-label-2 : tie.Need-sub-put-label-2 Inv-loop μ-loop
-sub-put-label-2 c = let loop′ = c .before .before .loop in
-    let args′ = c .before .before .before .before .before .args in
-    omega (arith, loop′ .inv .4 .is-length, lines-mono (loop′ .k) (args′ .n) (args′ .labels .now) (omega arith))
+sub-put-label-2 c = omega (arith, tail-inside (first-put (c .before)))
 
 part-put-label-start-2 : tie.Need-part-put-label-start-2 Inv-loop μ-loop
-part-put-label-start-2 c = let loop′ = c .before .before .loop in
-    let args′ = c .before .before .before .before .before .args in
-    omega (arith, loop′ .inv .4 .is-length, lines-mono (loop′ .k) (args′ .n) (args′ .labels .now) (omega arith))
+part-put-label-start-2 c = omega (arith, tail-inside (first-put (c .before)))
 
 part-put-label-end-2 : tie.Need-part-put-label-end-2 Inv-loop μ-loop
-part-put-label-end-2 c = let loop′ = c .before .before .loop in
-    let args′ = c .before .before .before .before .before .args in
-    omega (arith, loop′ .inv .4 .is-length, lines-mono (loop′ .k) (args′ .n) (args′ .labels .now) (omega arith))
+part-put-label-end-2 c = omega (arith, tail-inside (first-put (c .before)))
 
 put-label-requires : tie.Need-put-label-requires Inv-loop μ-loop
-put-label-requires c κs = let args′ = c .before .before .before .before .before .before .args in
-    let loop′ = c .before .before .before .loop in
-    rw (part-slot (args′ .labels .now) (8 * loop′ .k) (8 * loop′ .k + 8) (loop′ .k) refl refl) (left-room (labelLines (labelsOf
-    (loop′ .k) (args′ .labels .now))) (args′ .out .now) (loop′ .out) (loop′ .at) (loop′ .inv .4) (ended (labelOf (slot
-    (args′ .labels .now) (loop′ .k)))) _ refl (omega (
-      arith,
-      lines-mono (loop′ .k + 1) (args′ .n) (args′ .labels .now) (omega
-          arith),
-      ap length (label-line-next (loop′ .k) (args′ .labels .now)),
-      length-append (labelLines (labelsOf (loop′ .k)
-          (args′ .labels .now))) (ended (labelOf (slot (args′ .labels .now) (loop′ .k)))),
-      loop′ .inv .2,
-    )))
+put-label-requires c κs = let b = c .before .before in omega (arith, ap length (lent b), tail-room (first-put b) _ refl)
 
 add-at : tie.Need-add-at Inv-loop μ-loop
-add-at c = let loop′ = c .before .before .before .before .before .before .loop in
-    let args′ = c .before .before .before .before .before .before .before .before .before .args in
-    let put-label′ = c .before .before .put-label in
-    let h : length (labelLines (labelsOf (loop′ .k) (args′ .labels .now))) + length (ended (labelOf (slot (args′ .labels .now)
-    (loop′ .k)))) ≤ length (args′ .out .now) = omega (
-      arith,
-      lines-mono (loop′ .k + 1) (args′ .n) (args′ .labels .now) (omega
-          arith),
-      ap length (label-line-next (loop′ .k) (args′ .labels .now)),
-      length-append (labelLines (labelsOf (loop′ .k)
-          (args′ .labels .now))) (ended (labelOf (slot (args′ .labels .now) (loop′ .k)))),
-      loop′ .inv .2,
-    ) in
-    let q = (puts-same _ (ended (labelOf (slot (args′ .labels .now) (loop′ .k)))) _ _ _ (ap (λ x. ended (labelOf x)) (part-slot
-    (args′ .labels .now) (8 * loop′ .k) (8 * loop′ .k + 8) (loop′ .k) refl refl)) (put-label′ .ensures)) in
-    omega (arith, loop′ .inv .4 .is-length, q .is-length, h)
+add-at c =
+    let b = c .before .before .before .before .before in
+    total-fits (first-put b) (puts-same _ _ _ _ _ (lent b) (c .before .before .put-label .ensures)) (search needs)
 
 add-k : tie.Need-add-k Inv-loop μ-loop
 add-k c = search needs
@@ -95,46 +95,21 @@ loop-less : tie.Need-loop-less Inv-loop μ-loop
 loop-less c = search needs
 
 loop-again : tie.Need-loop-again Inv-loop μ-loop
-loop-again c = let loop′ = c .before .before .before .before .before .before .loop in
-    let args′ = c .before .before .before .before .before .before .before .before .before .args in
-    let put-label′ = c .before .before .put-label in
-    let l = loop′ in
-    let b = args′ .labels .now in
-    let p = puts-tail (labelLines (labelsOf (l .k) b)) (args′ .out .now) (l .out) (l .at) (l .inv .4) (ended (labelOf (slot b
-    (l .k)))) _ (put-label′ .result) _ refl (puts-same _ (ended (labelOf (slot (args′ .labels .now) (loop′ .k)))) _ _ _ (ap (λ x.
-    ended (labelOf x)) (part-slot (args′ .labels .now) (8 * loop′ .k) (8 * loop′ .k + 8) (loop′ .k) refl refl))
-    (put-label′ .ensures)) (omega (
-      arith,
-      lines-mono (loop′ .k + 1) (args′ .n) (args′ .labels .now) (omega arith),
-      ap length
-          (label-line-next (loop′ .k) (args′ .labels .now)),
-      length-append (labelLines (labelsOf (loop′ .k) (args′ .labels .now))) (ended
-          (labelOf (slot (args′ .labels .now) (loop′ .k)))),
-      loop′ .inv .2,
-    )) in
-    let q = puts-same _ (labelLines (labelsOf (l .k + 1) b)) (args′ .out .now) _ _ (sym (label-line-next (loop′ .k)
-    (args′ .labels .now))) p in (
-      omega arith,
-      l .inv .1,
-      l .inv .2,
-      puts-length _ (args′ .out .now) _ _ q (omega (
-        arith,
-        lines-mono (l .k + 1) (args′ .n) b
-            (omega arith),
-        l .inv .2,
-      )),
-      q,
-    )
+loop-again c =
+    let b = c .before .before .before .before .before in
+    let l = b .before .loop in
+    let p = both-put (first-put b) _ refl (puts-same _ _ _ _ _ (lent b) (c .before .before .put-label .ensures)) in
+    let q = puts-same _ _ _ _ _ (sym (label-line-next (place b) (buffer b))) p in
+    (omega arith, l .inv .1, l .inv .2, puts-length _ _ _ _ q (more-fits b), q)
 
 same-length : tie.Need-same-length Inv-loop μ-loop
 same-length c = c .before .loop .inv .3
 
 returns : tie.Need-returns Inv-loop μ-loop
-returns c = let loop′ = c .before .loop in
-    let args′ = c .before .before .before .before .args in
-    let e : loop′ .k ≡ args′ .n = omega arith in
-    puts-same _ (labelLines (labelsOf (args′ .n) (args′ .labels .now))) (args′ .out .now) (loop′ .out) (loop′ .at) (ap (λ x.
-    labelLines (labelsOf x (args′ .labels .now))) e) (loop′ .inv .4)
+returns c =
+    let s = c .before .before .before .before in
+    let e : c .before .loop .k ≡ s .args .n = omega arith in
+    puts-same _ _ _ _ _ (ap (λ x. labelLines (labelsOf x (s .args .labels .now))) e) (c .before .loop .inv .4)
 
 pub put-labels-spec : {M : Type 1} → statement M
 put-labels-spec =

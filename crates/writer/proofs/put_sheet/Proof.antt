@@ -1,98 +1,52 @@
 -- The row labels, and the other sections in the room that they leave. Assumes nothing.
 use borrow.Author.Needs.{needs}
 use native.Mathlib.Omega.{arith}
-use Prim.Native.Nat.{_+_, _-_}
 use mathlib.Core.Path.{refl}
-use Rattle.lettering.proofs.PutLaws.{puts-inside, puts-tail, left-room, sum-fits, part-room, first-room}
-use mathlib.Core.List.{_++_}
-use Rattle.sheet.specs.Text.{text, ended, rowsHead}
-use Rattle.sheet.specs.Sheet.{labelLines}
-use Rattle.writer.specs.Parts.{labelsOf, restText}
+use Rattle.lettering.proofs.PutLaws.{first-room, FirstPut, tail-inside, tail-room, total-fits, both-put}
+use Rattle.sheet.specs.Text.{rowsHead}
+use Rattle.writer.specs.Parts.{labelSection, restText}
 use Rattle.writer.proofs.put_sheet.Statement.{statement}
 use Rattle.writer.proofs.put_sheet.Tie as tie
+
+abbrev start : tie.After-put-label-section → tie.Start
+start c = c .before .before .before .before .before .before
+
+first-put : (c : tie.After-put-label-section)
+    → FirstPut (labelSection rowsHead (start c .args .n) (start c .args .rows .now))
+    (restText (start c .args .n) (start c .args .table .now) (start c .args .cols .now)) (start c .args .out .now)
+    (c .put-label-section .last .1 .1 .1 .0) (c .put-label-section .result)
+first-put c = record { put = c .put-label-section .ensures; fits = start c .pre .3 }
 
 slice-aggregate-put-label-section : tie.Need-slice-aggregate-put-label-section
 slice-aggregate-put-label-section c = search needs
 
 put-label-section-requires : tie.Need-put-label-section-requires
-put-label-section-requires c κs = let pre′ = c .before .before .before .before .before .pre in
-    let args′ = c .before .before .before .before .before .args in (
-      pre′ .1,
-      first-room (ended (rowsHead ++ text (args′ .n)) ++ labelLines (labelsOf (args′ .n) (args′ .rows .now))) (restText
-          (args′ .n) (args′ .table .now) (args′ .cols .now)) (args′ .out .now) (pre′ .3),
-    )
+put-label-section-requires c κs =
+    let s = c .before .before .before .before .before in
+    let rest = restText (s .args .n) (s .args .table .now) (s .args .cols .now) in
+    (s .pre .1, first-room (labelSection rowsHead (s .args .n) (s .args .rows .now)) rest (s .args .out .now) (s .pre .3))
 
 sub-put-rest : tie.Need-sub-put-rest
-sub-put-rest c = let args′ = c .before .before .before .before .before .before .before .before .args in
-    let put-label-section′ = c .before .before .put-label-section in
-    let pre′ = c .before .before .before .before .before .before .before .before .pre in
-    omega (
-      arith,
-      puts-inside (ended (rowsHead ++ text (args′ .n)) ++ labelLines (labelsOf (args′ .n) (args′ .rows .now)))
-          (args′ .out .now) _ (put-label-section′ .result) (put-label-section′ .ensures) (first-room (ended (rowsHead ++ text (args′ .n))
-          ++ labelLines (labelsOf (args′ .n) (args′ .rows .now))) (restText (args′ .n) (args′ .table .now) (args′ .cols .now))
-          (args′ .out .now) (pre′ .3)),
-    )
+sub-put-rest c = omega (arith, tail-inside (first-put (c .before .before)))
 
 part-put-rest-start : tie.Need-part-put-rest-start
-part-put-rest-start c = let args′ = c .before .before .before .before .before .before .before .before .args in
-    let put-label-section′ = c .before .before .put-label-section in
-    let pre′ = c .before .before .before .before .before .before .before .before .pre in
-    omega (
-      arith,
-      puts-inside (ended (rowsHead ++ text (args′ .n)) ++ labelLines (labelsOf (args′ .n) (args′ .rows .now)))
-          (args′ .out .now) _ (put-label-section′ .result) (put-label-section′ .ensures) (first-room (ended (rowsHead ++ text (args′ .n))
-          ++ labelLines (labelsOf (args′ .n) (args′ .rows .now))) (restText (args′ .n) (args′ .table .now) (args′ .cols .now))
-          (args′ .out .now) (pre′ .3)),
-    )
+part-put-rest-start c = omega (arith, tail-inside (first-put (c .before .before)))
 
 part-put-rest-end : tie.Need-part-put-rest-end
-part-put-rest-end c = let args′ = c .before .before .before .before .before .before .before .before .args in
-    let put-label-section′ = c .before .before .put-label-section in
-    let pre′ = c .before .before .before .before .before .before .before .before .pre in
-    omega (
-      arith,
-      puts-inside (ended (rowsHead ++ text (args′ .n)) ++ labelLines (labelsOf (args′ .n) (args′ .rows .now)))
-          (args′ .out .now) _ (put-label-section′ .result) (put-label-section′ .ensures) (first-room (ended (rowsHead ++ text (args′ .n))
-          ++ labelLines (labelsOf (args′ .n) (args′ .rows .now))) (restText (args′ .n) (args′ .table .now) (args′ .cols .now))
-          (args′ .out .now) (pre′ .3)),
-    )
+part-put-rest-end c = omega (arith, tail-inside (first-put (c .before .before)))
 
 put-rest-requires : tie.Need-put-rest-requires
-put-rest-requires c κs = let pre′ = c .before .before .before .before .before .before .before .before .before .pre in
-    let args′ = c .before .before .before .before .before .before .before .before .before .args in
-    let put-label-section′ = c .before .before .before .put-label-section in (
-      pre′ .0,
-      pre′ .2,
-      left-room (ended (rowsHead ++ text (args′ .n)) ++ labelLines (labelsOf (args′ .n) (args′ .rows .now)))
-          (args′ .out .now) _ (put-label-section′ .result) (put-label-section′ .ensures) (restText (args′ .n) (args′ .table .now)
-          (args′ .cols .now)) _ refl (part-room (ended (rowsHead ++ text (args′ .n)) ++ labelLines (labelsOf (args′ .n)
-          (args′ .rows .now))) (restText (args′ .n) (args′ .table .now) (args′ .cols .now)) (args′ .out .now) (pre′ .3)),
-    )
+put-rest-requires c κs =
+    let b = c .before .before .before in (start b .pre .0, start b .pre .2, tail-room (first-put b) _ refl)
 
 add-result : tie.Need-add-result
-add-result c = let args′ = c .before .before .before .before .before .before .before .before .before .before .before .before .args
-    in
-    let put-label-section′ = c .before .before .before .before .before .before .put-label-section in
-    let put-rest′ = c .before .before .put-rest in
-    let pre′ = c .before .before .before .before .before .before .before .before .before .before .before .before .pre in
-    sum-fits (ended (rowsHead ++ text (args′ .n)) ++ labelLines (labelsOf (args′ .n) (args′ .rows .now))) (args′ .out .now) _
-    (put-label-section′ .result) (put-label-section′ .ensures) (restText (args′ .n) (args′ .table .now) (args′ .cols .now)) _ _
-    (put-rest′ .result) (put-rest′ .ensures) (part-room (ended (rowsHead ++ text (args′ .n)) ++ labelLines (labelsOf (args′ .n)
-    (args′ .rows .now))) (restText (args′ .n) (args′ .table .now) (args′ .cols .now)) (args′ .out .now) (pre′ .3)) (search needs)
+add-result c = total-fits (first-put (c .before .before .before .before .before .before)) (c .before .before .put-rest .ensures) (search needs)
 
 same-length : tie.Need-same-length
 same-length c = search needs
 
 returns : tie.Need-returns
-returns c = let args′ = c .before .before .before .before .before .before .before .before .before .before .before .before .args in
-    let put-label-section′ = c .before .before .before .before .before .before .put-label-section in
-    let put-rest′ = c .before .before .put-rest in
-    let pre′ = c .before .before .before .before .before .before .before .before .before .before .before .before .pre in
-    puts-tail (ended (rowsHead ++ text (args′ .n)) ++ labelLines (labelsOf (args′ .n) (args′ .rows .now))) (args′ .out .now) _
-    (put-label-section′ .result) (put-label-section′ .ensures) (restText (args′ .n) (args′ .table .now) (args′ .cols .now)) _
-    (put-rest′ .result) _ refl (put-rest′ .ensures) (part-room (ended (rowsHead ++ text (args′ .n)) ++ labelLines (labelsOf
-    (args′ .n) (args′ .rows .now))) (restText (args′ .n) (args′ .table .now) (args′ .cols .now)) (args′ .out .now) (pre′ .3))
+returns c = both-put (first-put (c .before .before .before .before .before .before)) _ refl (c .before .before .put-rest .ensures)
 
 pub put-sheet-spec : {M : Type 1} → statement M
 put-sheet-spec =

@@ -10,8 +10,8 @@ use Rattle.handed.proofs.Basics.{in-size}
 use Rattle.writer.specs.Parts.{BufferStands}
 use Rattle.writer.specs.Promise.{Model, model, Wanted}
 use Rattle.writer.proofs.Refusing.{refuse-size, refuse-length, refuse-entry, refuse-label}
-use Rattle.writer.proofs.SheetLaws.{tested, rows-fail, cols-fail, write-refused, write-good}
-use Rattle.writer.proofs.OrderLaws.{square-few}
+use Rattle.writer.proofs.SheetLaws.{square, rows-fail, cols-fail, write-refused, write-good}
+use Rattle.orders.proofs.Places.{square-small}
 use Rattle.writer.proofs.write_sheet.Statement.{statement}
 use Rattle.writer.proofs.write_sheet.Tie as tie
 
@@ -44,7 +44,7 @@ returns-2 : tie.Need-returns-2
 returns-2 c = refuse-size _ _ (inr (c .if2 .taken))
 
 mul-if3 : tie.Need-mul-if3
-mul-if3 c = omega (arith, square-few (c .before .before .before .before .before .args .n) (c .if2 .left))
+mul-if3 c = omega (arith, square-small (c .before .before .before .before .before .args .n) (c .if2 .left))
 
 returns-3 : tie.Need-returns-3
 returns-3 c = refuse-length _ _ (in-size (c .before .before .if1 .left) (c .before .if2 .left)) (λ w. c .if3 .taken (w .table-length))
@@ -91,7 +91,7 @@ returns-8 c =
 sheet-length-requires : tie.Need-sheet-length-requires
 sheet-length-requires c κs =
     let tested′ = c .before .before .before .before .before .before in (
-      tested _ _ _ _ (size tested′) (lengths tested′) (entries (c .before .before .before .before)),
+      square _ _ _ _ (size tested′) (lengths tested′),
       omega (arith, lengths tested′ .rows-length),
       omega (arith, lengths tested′ .cols-length),
     )
@@ -106,7 +106,7 @@ returns-9 c =
 put-sheet-requires : tie.Need-put-sheet-requires
 put-sheet-requires c κs =
     let tested′ = c .before .before .before .before .before .before .before .before .before in (
-      tested _ _ _ _ (size tested′) (lengths tested′) (entries (c .before .before .before .before .before .before .before)),
+      lengths tested′ .table-length,
       omega (arith, lengths tested′ .rows-length),
       omega (arith, lengths tested′ .cols-length),
       omega (arith, c .before .before .sheet-length .ensures, c .before .if9 .left),

@@ -4,10 +4,10 @@ use Prim.Native.Nat.{ℕ}
 use native.Mathlib.Omega.{arith}
 use lib.IntN.{ℤ}
 use Rattle.fields.specs.declared.Front.the-variants.{Number, Nothing as NoFront}
-use Rattle.fields.specs.declared.Unsigned.{Unsigned}
-use Rattle.fields.specs.declared.Unsigned.the-variants.{Is as IsUnsigned, Nothing as NoUnsigned}
+use Rattle.fields.specs.declared.Count.{Count}
+use Rattle.fields.specs.declared.Count.the-variants.{Of, Nothing as NoCount}
 use Rattle.fields.specs.declared.Signed.the-variants.{Is as IsSigned, Nothing as NoSigned}
-use Rattle.fields.specs.Fields.{FrontOf, UnsignedOf, SignedOf}
+use Rattle.fields.specs.Fields.{FrontOf, CountOf, SignedOf}
 
 module _ {P : ℕ → ℕ → Type 0} where
   pub front-found : (v k : ℕ) → P v k → FrontOf P (Number v k)
@@ -21,19 +21,19 @@ module _ {P : ℕ → ℕ → Type 0} where
   front-none n = record { found = λ v k e. absurd (let z : _≡_ {A = ℕ} 0 1 = cc in omega arith); none = λ e. n }
 
 module _ {P : ℕ → Type 0} where
-  pub unsigned-found : (v : ℕ) → P v → UnsignedOf P (IsUnsigned v)
-  unsigned-found v p =
+  pub count-found : (v : ℕ) → P v → CountOf P (Of v)
+  count-found v p =
       record {
         found = λ w e. let a : v ≡ w = cc in subst (λ x. P x) a p;
         none = λ e. absurd (let z : _≡_ {A = ℕ} 0 1 = cc in omega arith);
       }
 
-  pub unsigned-none : ((v : ℕ) → P v → ⊥) → UnsignedOf P NoUnsigned
-  unsigned-none n = record { found = λ v e. absurd (let z : _≡_ {A = ℕ} 0 1 = cc in omega arith); none = λ e. n }
+  pub count-none : ((v : ℕ) → P v → ⊥) → CountOf P NoCount
+  count-none n = record { found = λ v e. absurd (let z : _≡_ {A = ℕ} 0 1 = cc in omega arith); none = λ e. n }
 
 -- what tells of P tells of Q, where the two hold of the same
-pub unsigned-as : {P Q : ℕ → Type 0} {r : Unsigned} → ((v : ℕ) → P v → Q v) → ((v : ℕ) → Q v → P v) → UnsignedOf P r → UnsignedOf Q r
-unsigned-as f g t = record { found = λ v e. f v (t .found v e); none = λ e v q. t .none e v (g v q) }
+pub count-as : {P Q : ℕ → Type 0} {r : Count} → ((v : ℕ) → P v → Q v) → ((v : ℕ) → Q v → P v) → CountOf P r → CountOf Q r
+count-as f g t = record { found = λ v e. f v (t .found v e); none = λ e v q. t .none e v (g v q) }
 
 module _ {P : ℤ → Type 0} where
   pub signed-found : (v : ℤ) → P v → SignedOf P (IsSigned v)

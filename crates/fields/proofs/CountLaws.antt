@@ -7,7 +7,7 @@ use lib.ListN.{length, getD, take, drop, take-append-drop, length-append, List·
 use lib.Seq.{getD-take, length-take-le, drop-at, ext-getD}
 use Rattle.sheet.specs.Text.{text}
 use Rattle.sheet.proofs.Numbers.{text-once}
-use Rattle.fields.specs.Fields.{StartsWith, NumberIs, CountIs}
+use Rattle.fields.specs.Fields.{StartsWith, NumberIs, CountAfter}
 
 module _ (s head : List ℕ) where
   pub starts-short : length s < length head → StartsWith s head → ⊥
@@ -28,17 +28,17 @@ module _ (s head : List ℕ) where
 
   module _ (low high : ℕ) where
     -- the bytes behind the first ones are the count's
-    behind : (c : ℕ) → CountIs s head low high c → drop (length head) s ≡ text c
+    behind : (c : ℕ) → CountAfter s head low high c → drop (length head) s ≡ text c
     behind c o = ap (λ y. drop (length head) y) (o .is) ∙ drop-at head (text c) (length head) refl
 
-    pub other-start : (StartsWith s head → ⊥) → (c : ℕ) → CountIs s head low high c → ⊥
+    pub other-start : (StartsWith s head → ⊥) → (c : ℕ) → CountAfter s head low high c → ⊥
     other-start n c o = n (o .is ∙ ap (λ y. head ++ y) (sym (behind c o)))
 
-    pub count-nothing : ((v : ℕ) → NumberIs (drop (length head) s) high v → ⊥) → (c : ℕ) → CountIs s head low high c → ⊥
+    pub count-nothing : ((v : ℕ) → NumberIs (drop (length head) s) high v → ⊥) → (c : ℕ) → CountAfter s head low high c → ⊥
     count-nothing none c o = none c (record { small = o .most; is = behind c o })
 
-    pub count-low : (v : ℕ) → NumberIs (drop (length head) s) high v → v < low → (c : ℕ) → CountIs s head low high c → ⊥
+    pub count-low : (v : ℕ) → NumberIs (drop (length head) s) high v → v < low → (c : ℕ) → CountAfter s head low high c → ⊥
     count-low v f h c o = omega (arith, o .least, text-once v c (sym (f .is) ∙ behind c o))
 
-    pub count-good : StartsWith s head → (v : ℕ) → NumberIs (drop (length head) s) high v → low ≤ v → CountIs s head low high v
+    pub count-good : StartsWith s head → (v : ℕ) → NumberIs (drop (length head) s) high v → low ≤ v → CountAfter s head low high v
     count-good b v f l = record { least = l; most = f .small; is = b ∙ ap (λ y. head ++ y) (f .is) }

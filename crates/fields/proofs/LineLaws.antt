@@ -1,16 +1,16 @@
--- The first line of a text, from where its line feed is. Assumes nothing.
-use mathlib.Core.Path.{_≡_, sym, ap, _∙_}
+-- The first line of a text, and what stands behind it. Assumes nothing.
+use mathlib.Core.Path.{_≡_, refl, sym, ap, subst⁻¹, _∙_}
 use mathlib.Core.Logic.{_≢_}
 use mathlib.Core.List.{List, _∷_, _++_}
-use Prim.Native.Nat.{ℕ, suc, _+_, _≤_, _<_}
+use Prim.Native.Nat.{ℕ, suc, _+_, _<_}
 use native.Mathlib.Omega.{arith}
 use native.Mathlib.Numerals.{add-one}
 use lib.ListN.{length, take, drop, length-append}
-use lib.Seq.{split-at, drop-append-add, getD-take, length-take-le}
+use lib.Seq.{split-at, take-at, drop-append-add, getD-take, length-take-le}
 use Rattle.sheet.specs.Text.{feed}
 use Rattle.sheet.specs.Reading.{Ended}
 use Rattle.sheet.proofs.Lines.{ended-once, unbroken-unended}
-use Rattle.fields.specs.Fields.{LineEnd}
+use Rattle.fields.specs.Fields.{BeforeFeed, LineIs}
 
 -- what stands behind the first line, and how many bytes that line takes
 module _ {s l x : List ℕ} (e : Ended s l x) where
@@ -20,27 +20,36 @@ module _ {s l x : List ℕ} (e : Ended s l x) where
   pub line-length : length l + 1 + length x ≡ length s
   line-length = omega (arith, ap length (e .parts), length-append l (feed ∷ x))
 
-module _ {s : List ℕ} {e : ℕ} (end : LineEnd s e) where
-  -- without a line feed there is no line
-  pub line-none : e ≡ length s → (l x : List ℕ) → Ended s l x → ⊥
-  line-none z l x = unbroken-unended s l x (λ k h. end .before k (omega arith))
+  front-line : take (length l) s ≡ l
+  front-line = ap (λ y. take (length l) y) (e .parts) ∙ take-at l (feed ∷ x) (length l) refl
 
-  -- with one the bytes before it are the line
-  module _ (more : e ≢ length s) where
-    pub line-inside : e < length s
-    line-inside = omega (arith, end .inside)
+  pub line-of : LineIs s (length l)
+  line-of =
+      record {
+        ended = subst⁻¹ (λ y. Ended s y (drop (length l + 1) s)) front-line (rw behind-line at e);
+        inside = omega (arith, line-length);
+      }
 
-    pub line-found : Ended s (take e s) (drop (e + 1) s)
-    line-found =
-        record {
-          parts =
-              split-at s e 0 line-inside
-              ∙ ap (λ b. take e s ++ b ∷ drop (suc e) s) (end .here line-inside)
-              ∙ ap (λ i. take e s ++ feed ∷ drop i s) (sym (add-one e));
-          whole = λ k h.
-              let w : length (take e s) ≡ e = length-take-le e s (end .inside) in
-              rw (getD-take e s k 0 (omega arith)) (end .before k (omega arith));
-        }
+-- the first line is found in one way only
+pub line-only : {s : List ℕ} {e : ℕ} → LineIs s e → (l x : List ℕ) → Ended s l x → l ≡ take e s
+line-only {s} {e} f l x g = ended-once s l x (take e s) (drop (e + 1) s) g (f .ended) .0
 
-    pub line-only : (l x : List ℕ) → Ended s l x → l ≡ take e s
-    line-only l x f = ended-once s l x (take e s) (drop (e + 1) s) f line-found .0
+-- bytes that are no line feeds are a line where a line feed follows them; a text of such bytes has none
+module _ {s : List ℕ} {e : ℕ} (b : BeforeFeed s e) where
+  pub line-found : e ≢ length s → LineIs s e
+  line-found more =
+      let h : e < length s = omega (arith, b .inside) in
+      let w : length (take e s) ≡ e = length-take-le e s (b .inside) in
+      record {
+        ended =
+            record {
+              parts =
+                  split-at s e 0 h
+                  ∙ ap (λ y. take e s ++ y ∷ drop (suc e) s) (b .here h) ∙ ap (λ i. take e s ++ feed ∷ drop i s) (sym (add-one e));
+              whole = λ k g. rw (getD-take e s k 0 (omega arith)) (b .none k (omega arith));
+            };
+        inside = h;
+      }
+
+  pub line-none : e ≡ length s → (i : ℕ) → LineIs s i → ⊥
+  line-none z i f = unbroken-unended s (take i s) (drop (i + 1) s) (λ k g. b .none k (omega arith)) (f .ended)

@@ -7,9 +7,9 @@ use native.Mathlib.Decide.{ℕ-discrete}
 use native.Mathlib.Numerals.{add-one}
 use lib.ListN.{length, getD, take, drop, take-append-drop, drop-of-length-le, length-append, length-drop, List·getD-append}
 use lib.Seq.{take-suc, drop-at, drop-cons, drop-append-add, length-take-le}
-use Rattle.sheet.specs.Text.{blank, text}
+use Rattle.sheet.specs.Text.{blank, Digit, NoDigit, text}
 use Rattle.sheet.proofs.Bytes.{run-prefix, each-cons, each-one}
-use Rattle.sheet.proofs.Numbers.{Digit, NoDigit, text-small, text-next, text-digits, text-some, text-first, number-once}
+use Rattle.sheet.proofs.Numbers.{text-small, text-next, text-digits, text-some, text-first, number-once}
 use Rattle.sheet.proofs.Numbers.{value-text, value-append, value-grows, valueFrom}
 use Rattle.sheet.proofs.Lines.{blank-stops}
 use Rattle.fields.specs.Fields.{FrontIs, FieldIs, NumberIs}

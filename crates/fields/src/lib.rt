@@ -1,6 +1,6 @@
 ghost use Rattle.orders.specs.Tested.{Tells};
-ghost use Rattle.sheet.proofs.Numbers.{Digit};
-ghost use Rattle.fields.specs.Fields.{LineEnd, StartsWith, Readable, FrontIs, FieldIs, NumberIs, SignedIs, CountIs, FrontOf, UnsignedOf, SignedOf};
+ghost use Rattle.sheet.specs.Text.{Digit};
+ghost use Rattle.fields.specs.Fields.{BeforeFeed, LineIs, StartsWith, Readable, FrontIs, FieldIs, NumberIs, SignedIs, CountAfter, FrontOf, CountOf, SignedOf};
 ghost use Prim.Native.Nat.{_^_, _<_};
 use sheet::BLANK;
 use sheet::FEED;
@@ -12,21 +12,21 @@ pub enum Front {
     Nothing,
 }
 
-// A text that is one number from end to end; or nothing.
-pub enum Unsigned {
-    Is(usize),
+// A count that was found; or nothing.
+pub enum Count {
+    Of(usize),
     Nothing,
 }
 
-// The same of a number that may be below 0.
+// A number that was found, which may be below 0; or nothing.
 pub enum Signed {
     Is(i16),
     Nothing,
 }
 
 // The bytes before the first line feed; all of them where there is none. Rules out a later line feed taken for the first.
-pub fn line_end(s: &[u8]) -> usize
-    ensures { λ r. ⌜ LineEnd (now (s .entry)) r ⌝ }
+fn before_feed(s: &[u8]) -> usize
+    ensures { λ r. ⌜ BeforeFeed (now (s .entry)) r ⌝ }
 {
     let mut i = 0;
     while i < s.len() {
@@ -36,6 +36,17 @@ pub fn line_end(s: &[u8]) -> usize
         i += 1;
     }
     i
+}
+
+// The bytes of the first line of s, which its line feed ends. Rules out a line that is not ended.
+pub fn line_end(s: &[u8]) -> Count
+    ensures { λ r. ⌜ CountOf (LineIs (now (s .entry))) r ⌝ }
+{
+    let end = before_feed(s);
+    if end == s.len() {
+        return Count::Nothing;
+    }
+    Count::Of(end)
 }
 
 // Is a byte a digit? Rules out the bytes beside the ten.
@@ -106,17 +117,17 @@ pub fn number_field(s: &[u8], limit: usize) -> Front
 }
 
 // The number that s is. Rules out bytes behind the number.
-fn unsigned_number(s: &[u8], limit: usize) -> Unsigned
+fn unsigned_number(s: &[u8], limit: usize) -> Count
     requires { ⌜ Readable limit ⌝ }
-    ensures { λ r. ⌜ UnsignedOf (NumberIs (now (s .entry)) limit) r ⌝ }
+    ensures { λ r. ⌜ CountOf (NumberIs (now (s .entry)) limit) r ⌝ }
 {
     let Front::Number { value, taken } = front_number(s, limit) else {
-        return Unsigned::Nothing;
+        return Count::Nothing;
     };
     if taken < s.len() {
-        return Unsigned::Nothing;
+        return Count::Nothing;
     }
-    Unsigned::Is(value)
+    Count::Of(value)
 }
 
 // The number that s is, which may be below 0. Rules out a minus before 0, and a number further than the limit from 0.
@@ -128,7 +139,7 @@ pub fn signed_number(s: &[u8], limit: usize) -> Signed
         return Signed::Nothing;
     }
     if s[0] == MINUS {
-        let Unsigned::Is(size) = unsigned_number(&s[1..], limit) else {
+        let Count::Of(size) = unsigned_number(&s[1..], limit) else {
             return Signed::Nothing;
         };
         if size == 0 {
@@ -136,7 +147,7 @@ pub fn signed_number(s: &[u8], limit: usize) -> Signed
         }
         return Signed::Is(-(size as i16));
     }
-    let Unsigned::Is(value) = unsigned_number(s, limit) else {
+    let Count::Of(value) = unsigned_number(s, limit) else {
         return Signed::Nothing;
     };
     Signed::Is(value as i16)
@@ -160,19 +171,19 @@ fn starts_with(s: &[u8], head: &[u8]) -> bool
 }
 
 // The count after these bytes: it takes the rest of the line and lies within the bounds. Rules out a count outside the bounds.
-pub fn count_after(line: &[u8], head: &[u8], low: usize, high: usize) -> Unsigned
+pub fn count_after(line: &[u8], head: &[u8], low: usize, high: usize) -> Count
     requires { ⌜ Readable high ⌝ }
-    ensures { λ r. ⌜ UnsignedOf (CountIs (now (line .entry)) (now (head .entry)) low high) r ⌝ }
+    ensures { λ r. ⌜ CountOf (CountAfter (now (line .entry)) (now (head .entry)) low high) r ⌝ }
 {
     if !starts_with(line, head) {
-        return Unsigned::Nothing;
+        return Count::Nothing;
     }
     let a = head.len();
-    let Unsigned::Is(count) = unsigned_number(&line[a..], high) else {
-        return Unsigned::Nothing;
+    let Count::Of(count) = unsigned_number(&line[a..], high) else {
+        return Count::Nothing;
     };
     if count < low {
-        return Unsigned::Nothing;
+        return Count::Nothing;
     }
-    Unsigned::Is(count)
+    Count::Of(count)
 }

@@ -82,39 +82,39 @@ first-room a b o h = omega (arith, length-append a b)
 
 -- A text a was put into a room that has space for the text b behind it too. From this alone a function goes on that lends the tail of
 -- the room to the next one, or writes one byte more: so all of them have the same proof.
-pub record Begun (a b o o′ : List ℕ) (n : ℕ) : Type 0 where
+pub record FirstPut (a b o o′ : List ℕ) (n : ℕ) : Type 0 where
   pub put : Puts a o o′ n
   pub fits : length (a ++ b) ≤ length o
 
-module _ {a b o o′ : List ℕ} {n : ℕ} (s : Begun a b o o′ n) where
+module _ {a b o o′ : List ℕ} {n : ℕ} (s : FirstPut a b o o′ n) where
   both-fit : length a + length b ≤ length o
   both-fit = omega (arith, s .fits, length-append a b)
 
   -- the tail begins inside the room, and the second text fits it
-  pub begun-inside : n ≤ length o′
-  begun-inside = omega (arith, both-fit, s .put .is-length, puts-length a o o′ n (s .put) (first-room a b o (s .fits)))
+  pub tail-inside : n ≤ length o′
+  tail-inside = omega (arith, both-fit, s .put .is-length, puts-length a o o′ n (s .put) (first-room a b o (s .fits)))
 
-  pub begun-left : (k : ℕ) → k ≡ length o′ - n → length b ≤ length (take k (drop n o′))
-  begun-left k g = left-room a o o′ n (s .put) b k g both-fit
+  pub tail-room : (k : ℕ) → k ≡ length o′ - n → length b ≤ length (take k (drop n o′))
+  tail-room k g = left-room a o o′ n (s .put) b k g both-fit
 
   -- once it is put there, both are put
-  pub begun-total : {r y : List ℕ} {m : ℕ} → Puts b r y m → Fits w64 (length o) → Fits w64 (n + m)
-  begun-total q f = omega (arith, both-fit, s .put .is-length, q .is-length)
+  pub total-fits : {r y : List ℕ} {m : ℕ} → Puts b r y m → Fits w64 (length o) → Fits w64 (n + m)
+  total-fits q f = omega (arith, both-fit, s .put .is-length, q .is-length)
 
-  pub begun-whole : {ys : List ℕ} {m : ℕ} (k : ℕ) → k ≡ length o′ - n → Puts b (take k (drop n o′)) ys m
+  pub both-put : {ys : List ℕ} {m : ℕ} (k : ℕ) → k ≡ length o′ - n → Puts b (take k (drop n o′)) ys m
       → Puts (a ++ b) o (take n o′ ++ (ys ++ drop k (drop n o′))) (n + m)
-  begun-whole {ys} {m} k g q = puts-tail a o o′ n (s .put) b ys m k g q both-fit
+  both-put {ys} {m} k g q = puts-tail a o o′ n (s .put) b ys m k g q both-fit
 
-module _ {a o o′ : List ℕ} {n b : ℕ} (s : Begun a (b ∷ []) o o′ n) where
-  byte-fits : length a < length o
-  byte-fits = omega (arith, s .fits, length-append a (b ∷ []))
+module _ {a o o′ : List ℕ} {n b : ℕ} (s : FirstPut a (b ∷ []) o o′ n) where
+  room-for : length a < length o
+  room-for = omega (arith, s .fits, length-append a (b ∷ []))
 
   -- the same for one byte
   pub byte-inside : n < length o′
-  byte-inside = omega (arith, byte-fits, s .put .is-length, puts-length a o o′ n (s .put) (first-room a (b ∷ []) o (s .fits)))
+  byte-inside = omega (arith, room-for, s .put .is-length, puts-length a o o′ n (s .put) (first-room a (b ∷ []) o (s .fits)))
 
-  pub byte-total : Fits w64 (length o) → Fits w64 (n + 1)
-  byte-total f = omega (arith, byte-fits, s .put .is-length)
+  pub byte-fits : Fits w64 (length o) → Fits w64 (n + 1)
+  byte-fits f = omega (arith, room-for, s .put .is-length)
 
-  pub byte-whole : Puts (a ++ b ∷ []) o (set o′ n b) (n + 1)
-  byte-whole = puts-byte a o o′ n (s .put) b byte-fits
+  pub byte-put : Puts (a ++ b ∷ []) o (set o′ n b) (n + 1)
+  byte-put = puts-byte a o o′ n (s .put) b room-for

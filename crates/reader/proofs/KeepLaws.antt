@@ -1,7 +1,6 @@
 -- What is kept of the lines so far, and one line more. Assumes nothing.
 use mathlib.Core.Path.{_≡_, refl, sym, ap, subst, _∙_}
 use mathlib.Core.Bool.{Bool, true, false, not}
-use mathlib.Core.Logic.{_≢_}
 use mathlib.Core.List.{List, [], _∷_, _++_, append-assoc, append-nil}
 use Prim.Native.Nat.{ℕ, zero, suc, _+_, _-_, _*_, _<_, _≤_}
 use native.Mathlib.Omega.{arith}
@@ -18,8 +17,8 @@ use Rattle.sheet.proofs.Bytes.{clash}
 use Rattle.sheet.proofs.Slots.{Short, labels-short, slots-length, slots-append, slot-at, filled-once, labels-more, length-more}
 use Rattle.sheet.proofs.Lines.{rank}
 use Rattle.sheet.proofs.Orders.{cell}
-use Rattle.fields.specs.Fields.{LineEnd}
-use Rattle.fields.proofs.LineLaws.{line-none, line-inside, line-found, line-only}
+use Rattle.fields.specs.Fields.{LineIs}
+use Rattle.fields.proofs.LineLaws.{line-of, line-only}
 use Rattle.reader.specs.declared.Section.{Section}
 use Rattle.reader.specs.declared.Section.the-variants.{Rows, Cols, Orders}
 use Rattle.reader.specs.declared.Fit.{Fit}
@@ -272,27 +271,27 @@ module _ (kept : Store) (n k m : ℕ) (l : List ℕ) (st : State) (h : Holds kep
       go st′ (order-line m′ i j v z y p q o r u x) = omega (arith, ap rank z, ap rank (d .section-is))
 
 -- ---- the line at the front of a text: the text has none, or it is not kept, or it is
-module _ {section : Section} {n k m : ℕ} {st : State} {s : List ℕ} {t : List ℤ} {b c : List ℕ} {e : ℕ} (end : LineEnd s e) where
-  pub front-missing : e ≡ length s → FrontKept section n k m st s NoLine t b c
-  front-missing z =
+module _ {section : Section} {n k m : ℕ} {st : State} {s : List ℕ} {t : List ℤ} {b c : List ℕ} where
+  pub front-missing : ((e : ℕ) → LineIs s e → ⊥) → FrontKept section n k m st s NoLine t b c
+  front-missing none =
       record {
         fit = λ x y f. absurd (let o : _≡_ {A = ℕ} 0 1 = cc in omega arith);
-        unfit = λ f l x st′ g a. line-none end z l x g;
+        unfit = λ f l x st′ g a. none (length l) (line-of g);
       }
 
-  module _ (more : e ≢ length s) (r : Fit) (told : LineKept section n k m st (take e s) r t b c) where
+  module _ {e : ℕ} (first : LineIs s e) (r : Fit) (told : LineKept section n k m st (take e s) r t b c) where
     pub front-unfit : r ≡ NoFit → FrontKept section n k m st s NoLine t b c
     front-unfit z =
         record {
           fit = λ x y f. absurd (let o : _≡_ {A = ℕ} 0 1 = cc in omega arith);
-          unfit = λ f l x st′ g a. told .unfit z st′ (subst (λ y. After st y st′) (line-only end more l x g) a);
+          unfit = λ f l x st′ g a. told .unfit z st′ (subst (λ y. After st y st′) (line-only first l x g) a);
         }
 
     pub front-fit : (next : ℕ) → r ≡ Next next → FrontKept section n k m st s (Line next (e + 1)) t b c
     front-fit next z =
         let f = told .fit next z in
         let taken : LineTaken st s (e + 1) (f .0) =
-        record { line = take e s; stands = f .1; ended = line-found end more; inside = omega (arith, line-inside end more) } in
+        record { line = take e s; stands = f .1; ended = first .ended; inside = omega (arith, first .inside) } in
         record {
           fit = λ x y g.
               let p : next ≡ x = cc in

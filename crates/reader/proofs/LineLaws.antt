@@ -1,6 +1,5 @@
 -- Order lines and headings. Assumes nothing.
 use mathlib.Core.Path.{_≡_, ap, subst, _∙_}
-use mathlib.Core.Logic.{_≢_}
 use mathlib.Core.List.{List, _∷_, _++_}
 use Prim.Native.Nat.{ℕ, _+_, _-_, _*_, _≤_}
 use native.Mathlib.Omega.{arith}
@@ -9,11 +8,11 @@ use lib.IntN.{ℤ}
 use lib.ListN.{length, take, drop}
 use Rattle.theory.specs.Limits.{rows, order}
 use Rattle.sheet.specs.Text.{blank, text, signed, rowsHead, colsHead, ordersHead}
-use Rattle.fields.specs.declared.Unsigned.{Unsigned}
+use Rattle.fields.specs.declared.Count.{Count}
 use Rattle.sheet.specs.Reading.{opening, of-rows, of-cols, Heading}
-use Rattle.fields.specs.Fields.{LineEnd, FieldIs, SignedIs, CountIs, UnsignedOf}
-use Rattle.fields.proofs.Answers.{unsigned-as}
-use Rattle.fields.proofs.LineLaws.{line-none, line-inside, line-found, line-only}
+use Rattle.fields.specs.Fields.{LineIs, FieldIs, SignedIs, CountAfter, CountOf}
+use Rattle.fields.proofs.Answers.{count-as}
+use Rattle.fields.proofs.LineLaws.{line-of, line-only}
 use Rattle.fields.proofs.NumberLaws.{field-of, behind-field}
 use Rattle.reader.specs.declared.Section.{Section}
 use Rattle.reader.specs.declared.Place.the-variants.{At, Nothing as NoPlace}
@@ -68,31 +67,30 @@ module _ (n : ℕ) (l : List ℕ) where
           }
 
 -- the three headings: each is its bytes and then a count
-module _ (n : ℕ) (l : List ℕ) {r : Unsigned} where
-  pub heading-rows : UnsignedOf (CountIs l rowsHead 1 rows) r → UnsignedOf (λ c. Heading opening n c l) r
-  heading-rows = unsigned-as (λ c f. (f .least, f .most, f .is)) (λ c h. record { least = h .0; most = h .1; is = h .2 })
+module _ (n : ℕ) (l : List ℕ) {r : Count} where
+  pub heading-rows : CountOf (CountAfter l rowsHead 1 rows) r → CountOf (λ c. Heading opening n c l) r
+  heading-rows = count-as (λ c f. (f .least, f .most, f .is)) (λ c h. record { least = h .0; most = h .1; is = h .2 })
 
-  pub heading-cols : UnsignedOf (CountIs l colsHead n n) r → UnsignedOf (λ c. Heading of-rows n c l) r
+  pub heading-cols : CountOf (CountAfter l colsHead n n) r → CountOf (λ c. Heading of-rows n c l) r
   heading-cols =
-      unsigned-as (λ c f. (omega (arith, f .least, f .most), f .is))
+      count-as (λ c f. (omega (arith, f .least, f .most), f .is))
       (λ c h. record { least = omega (arith, h .0); most = omega (arith, h .0); is = h .1 })
 
-  pub heading-orders : UnsignedOf (CountIs l ordersHead 0 (n * n)) r → UnsignedOf (λ c. Heading of-cols n c l) r
-  heading-orders = unsigned-as (λ c f. (f .least, f .most, f .is)) (λ c h. record { least = h .0; most = h .1; is = h .2 })
+  pub heading-orders : CountOf (CountAfter l ordersHead 0 (n * n)) r → CountOf (λ c. Heading of-cols n c l) r
+  heading-orders = count-as (λ c f. (f .least, f .most, f .is)) (λ c h. record { least = h .0; most = h .1; is = h .2 })
 
 -- a section's heading at the front of a text: the text has no first line, or that is no heading, or it is one
-module _ (section : Section) (n : ℕ) {s : List ℕ} {e : ℕ} (end : LineEnd s e) where
-  pub heading-missing : e ≡ length s → (c k : ℕ) → HeadingIs section n s c k → ⊥
-  heading-missing z c k h = line-none end z (h .line) (drop k s) (h .ended)
+module _ (section : Section) (n : ℕ) (s : List ℕ) where
+  pub heading-missing : ((e : ℕ) → LineIs s e → ⊥) → (c k : ℕ) → HeadingIs section n s c k → ⊥
+  heading-missing none c k h = none (length (h .line)) (line-of (h .ended))
 
-  module _ (more : e ≢ length s) where
+  module _ {e : ℕ} (f : LineIs s e) where
     pub heading-other : ((c : ℕ) → Heading (before section) n c (take e s) → ⊥) → (c k : ℕ) → HeadingIs section n s c k → ⊥
     heading-other none c k h =
-        none c (subst (λ y. Heading (before section) n c y) (line-only end more (h .line) (drop k s) (h .ended)) (h .is))
+        none c (subst (λ y. Heading (before section) n c y) (line-only f (h .line) (drop k s) (h .ended)) (h .is))
 
     pub heading-good : (c : ℕ) → Heading (before section) n c (take e s) → HeadingIs section n s c (e + 1)
-    heading-good c h =
-        record { line = take e s; is = h; ended = line-found end more; inside = omega (arith, line-inside end more) }
+    heading-good c h = record { line = take e s; is = h; ended = f .ended; inside = omega (arith, f .inside) }
 
 -- a square within the limit of rows
 pub square-small : (n : ℕ) → n ≤ rows → n * n ≤ rows * rows

@@ -23,7 +23,7 @@ use Rattle.reader.specs.declared.Kept.{Kept}
 use Rattle.reader.specs.declared.Kept.the-variants.{Line, Nothing as NoLine}
 use Rattle.reader.specs.declared.Walked.the-variants.{Rows as Walked·Rows, Wrong}
 use Rattle.reader.specs.Parts.{meant, before, size-after, HeadingIs, Store, store, Holds, row-count, col-count}
-use Rattle.reader.specs.Parts.{InSection, Place-for, Within, FrontKept, Ends, WalkTells}
+use Rattle.reader.specs.Parts.{InSection, FewLabels, Within, FrontKept, Ends, WalkTells}
 use Rattle.reader.proofs.KeepLaws.{holding-length}
 
 -- ---- one line after the other
@@ -137,10 +137,10 @@ module _ (n c k : ℕ) (few : n ≤ rows) (inside : k ≤ c) where
   cols-small Cols z = omega arith
   cols-small Orders z = few
 
-  place-for : (section : Section) → Sized section n c → k < c → Place-for section k
-  place-for Rows z due = omega arith
-  place-for Cols z due = omega arith
-  place-for Orders z due = tt
+  labels-few : (section : Section) → Sized section n c → k < c → FewLabels section k
+  labels-few Rows z due = omega arith
+  labels-few Cols z due = omega arith
+  labels-few Orders z due = tt
 
 -- ---- before a section's heading
 pub record BeforeHeading (s : List ℕ) (kept : Store) (section : Section) (n line : ℕ) (rest : List ℕ) : Type 0 where
@@ -253,7 +253,7 @@ module _ {s : List ℕ} {kept : Store} {section : Section} {n line : ℕ} {rest 
       let h = u .held in
       record {
         few = u .few;
-        room = place-for n c k (u .few) (omega arith) section (u .sized) more;
+        room = labels-few n c k (u .few) (omega arith) section (u .sized) more;
         rows-whole =
             holding-length (kept .row-bytes) (st .row-labels) (h .rows-held) (labels-short (st .row-labels) (h .rows-stand))
             (omega (arith, u .due .rows-are, rows-small n c k (u .few) (omega arith) section (u .sized)));

@@ -110,16 +110,16 @@ pub record InSection (section : Section) (n k m : ℕ) (st : State) : Type 0 whe
   pub rows-are : length (st .row-labels) ≡ row-count section n k
   pub cols-are : length (st .col-labels) ≡ col-count section n k
 
--- a label buffer has a place for line k of a section
-abbrev pub Place-for : Section → ℕ → Type 0
-Place-for Rows k = k < rows
-Place-for Cols k = k < rows
-Place-for Orders k = Unit
+-- a label buffer has a place for line k of a section of labels
+abbrev pub FewLabels : Section → ℕ → Type 0
+FewLabels Rows k = k < rows
+FewLabels Cols k = k < rows
+FewLabels Orders k = Unit
 
 -- line k of a section may be kept: N and k are within the limits, and the label buffers are whole
 pub record Within (section : Section) (n k : ℕ) (b c : List ℕ) : Type 0 where
   pub few : n ≤ rows
-  pub room : Place-for section k
+  pub room : FewLabels section k
   pub rows-whole : length b ≡ width * rows
   pub cols-whole : length c ≡ width * rows
 

@@ -4,15 +4,15 @@ ghost use Prim.Native.Nat.{ℕ, _+_, _*_, _<_, _≤_};
 ghost use lib.ListN.{length, take, drop};
 ghost use Rattle.reader.specs.Parts.{OrderIs, PlaceOf, before, size-after, HeadingIs};
 ghost use Rattle.reader.specs.Parts.{Holding, LabelKept, store, Holds, Within, Keeps, KeepsFront, WalkTells};
-ghost use Rattle.fields.specs.Fields.{FrontOf, UnsignedOf};
+ghost use Rattle.fields.specs.Fields.{FrontOf, CountOf};
 ghost use Rattle.theory.specs.Limits.{rows};
 ghost use Rattle.sheet.specs.Labels.{Labels, width};
 ghost use Rattle.sheet.specs.Reading.{Heading, start};
 ghost use lib.Seq.{paste};
 ghost use Rattle.reader.specs.Promise.{ReadPromise, lent, says};
+use fields::Count;
 use fields::Front;
 use fields::Signed;
-use fields::Unsigned;
 use fields::count_after;
 use fields::line_end;
 use fields::number_field;
@@ -91,9 +91,9 @@ fn order_line(line: &[u8], n: usize) -> Place
 }
 
 // The count of a section's heading. Rules out another section's heading, and a count of columns that is not N.
-fn heading_count(section: Section, n: usize, line: &[u8]) -> Unsigned
+fn heading_count(section: Section, n: usize, line: &[u8]) -> Count
     requires { ⌜ n ≤ rows ⌝ }
-    ensures { λ r. ⌜ UnsignedOf (λ c. Heading (before section) n c (now (line .entry))) r ⌝ }
+    ensures { λ r. ⌜ CountOf (λ c. Heading (before section) n c (now (line .entry))) r ⌝ }
 {
     match section {
         Section::Rows => count_after(line, b"rows ", 1, ROWS),
@@ -108,11 +108,10 @@ fn heading(section: Section, n: usize, rest: &[u8]) -> Front
     requires { ⌜ n ≤ rows ⌝ }
     ensures { λ r. ⌜ FrontOf (HeadingIs section n (now (rest .entry))) r ⌝ }
 {
-    let end = line_end(rest);
-    if end == rest.len() {
+    let Count::Of(end) = line_end(rest) else {
         return Front::Nothing;
-    }
-    let Unsigned::Is(count) = heading_count(section, n, &rest[..end]) else {
+    };
+    let Count::Of(count) = heading_count(section, n, &rest[..end]) else {
         return Front::Nothing;
     };
     let taken = end + 1;
@@ -230,10 +229,9 @@ fn keep(
     ensures { λ r. ⌜ KeepsFront section n k (store (now (table .entry)) (now (rows .entry)) (now (cols .entry)) next) (now (rest .entry)) r
         (now (table .exit)) (now (rows .exit)) (now (cols .exit)) ⌝ }
 {
-    let end = line_end(rest);
-    if end == rest.len() {
+    let Count::Of(end) = line_end(rest) else {
         return Kept::Nothing;
-    }
+    };
     let Fit::Next(after) = keep_line(
         section,
         n,

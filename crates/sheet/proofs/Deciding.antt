@@ -16,7 +16,7 @@ use Rattle.theory.specs.Table.{Order}
 use Rattle.theory.proofs.Signed.{signed as signs}
 use Rattle.sheet.specs.Text.{Each, feed, blank, minus, text, signed, rowsHead, colsHead, ordersHead}
 use Rattle.sheet.specs.Labels.{LetterOrDigit, digit, capital, small, width, Form, New}
-use Rattle.sheet.specs.Sheet.{Labelled, orderText}
+use Rattle.sheet.specs.Sheet.{Labelled, orderText, IsSheet}
 use Rattle.sheet.specs.Reading.{Ended, Section, opening, of-rows, of-cols, of-orders, State, start, Heading, After, heading}
 use Rattle.sheet.specs.Reading.{row-label, col-label, order-line, begun, withRow, withCol, withOrder, Final, tableOf, Outcome, good}
 use Rattle.sheet.specs.Reading.{wrong, Reads, done, short, unfit, next}
@@ -25,7 +25,7 @@ use Rattle.sheet.proofs.Bytes.{each-weak}
 use Rattle.sheet.proofs.Numbers.{Digit, text-digits, text-some, valueFrom, value-text}
 use Rattle.sheet.proofs.Slots.{letter-low, letter-gap, letter-gap-2, letter-high}
 use Rattle.sheet.proofs.Lines.{Unbroken, Cut, unbroken, broken, cut, rank, SameOrder}
-use Rattle.sheet.proofs.Matching.{Written, read-is-written}
+use Rattle.sheet.proofs.Matching.{read-is-written}
 use Rattle.sheet.proofs.FirstWrong.{wrong-is-first}
 
 -- ---- decisions that compute
@@ -221,13 +221,13 @@ section-dec of-rows = no (λ e. omega (arith, ap rank e))
 section-dec of-cols = no (λ e. omega (arith, ap rank e))
 section-dec of-orders = yes refl
 
-unfoldable at-end : (st : State) (k : ℕ) (s : List ℕ) → Unbroken s → Dec ((st .section ≡ of-orders) × (st .left ≡ 0)) → (o : Outcome) × Reads st k s o
-at-end st k [] u (yes f) = (good (tableOf st), done refl (record { last = f .0; none-left = f .1 }) refl)
-at-end st k [] u (no f) = (wrong k, short u (λ e g. f (g .last, g .none-left)) refl)
-at-end st k (b ∷ s) u f = (wrong k, short {st = st} {s = b ∷ s} u (λ e g. omega (arith, ap length e)) refl)
+unfoldable end-outcome : (st : State) (k : ℕ) (s : List ℕ) → Unbroken s → Dec ((st .section ≡ of-orders) × (st .left ≡ 0)) → (o : Outcome) × Reads st k s o
+end-outcome st k [] u (yes f) = (good (tableOf st), done refl (record { last = f .0; none-left = f .1 }) refl)
+end-outcome st k [] u (no f) = (wrong k, short u (λ e g. f (g .last, g .none-left)) refl)
+end-outcome st k (b ∷ s) u f = (wrong k, short {st = st} {s = b ∷ s} u (λ e g. omega (arith, ap length e)) refl)
 
 unfoldable reads-by : (fuel : ℕ) (st : State) (k : ℕ) (s : List ℕ) → length s < fuel → (o : Outcome) × Reads st k s o
-unfolding cut decide section-dec at-end Dec·and
+unfolding cut decide section-dec end-outcome Dec·and
 reads-by zero st k s h = absurd (omega arith)
 reads-by (suc fuel) st k s h = go (cut s) (λ st′ x g. reads-by fuel st′ (suc k) x g)
   where
@@ -239,7 +239,7 @@ reads-by (suc fuel) st k s h = go (cut s) (λ st′ x g. reads-by fuel st′ (su
     on l x e (no n) rec = (wrong k, unfit l x e (λ st′ a. n (st′, a)) refl)
 
     go : Cut s → ((st′ : State) (y : List ℕ) → length y < fuel → (o : Outcome) × Reads st′ (suc k) y o) → (o : Outcome) × Reads st k s o
-    go (unbroken u) rec = at-end st k s u (Dec·and (section-dec (st .section)) (ℕ-discrete (st .left) 0))
+    go (unbroken u) rec = end-outcome st k s u (Dec·and (section-dec (st .section)) (ℕ-discrete (st .left) 0))
     go (broken l x e) rec = on l x e (decide st l) rec
 
 -- every byte string has an outcome
@@ -248,9 +248,9 @@ unfolding reads-by
 outcome s = reads-by (suc (length s)) start 1 s (omega arith)
 
 -- so it is the sheet of a table within the limits, or has a first wrong line
-pub sheet-or-wrong : (s : List ℕ) → ((t : Labelled) × Written t s) ⊎ ((k : ℕ) × FirstWrong s k)
+pub sheet-or-wrong : (s : List ℕ) → ((t : Labelled) × IsSheet t s) ⊎ ((k : ℕ) × FirstWrong s k)
 sheet-or-wrong s = go (outcome s .0) (outcome s .1)
   where
-    go : (o : Outcome) → Reads start 1 s o → ((t : Labelled) × Written t s) ⊎ ((k : ℕ) × FirstWrong s k)
+    go : (o : Outcome) → Reads start 1 s o → ((t : Labelled) × IsSheet t s) ⊎ ((k : ℕ) × FirstWrong s k)
     go (good t) r = inl (t, read-is-written s t r)
     go (wrong k) r = inr (k, wrong-is-first s k r)

@@ -5,12 +5,12 @@ use Prim.Native.Nat.{ℕ, _+_}
 use native.Mathlib.Omega.{arith}
 use lib.ListN.{length}
 use Rattle.sheet.specs.Text.{feed, ended}
-use Rattle.sheet.specs.Sheet.{Labelled, Stands, labelLines, sheetOf}
+use Rattle.sheet.specs.Sheet.{labelLines}
 use Rattle.sheet.specs.Reading.{Ended, State, start, tableOf, wrong, Reads, short, unfit, WrongLine}
 use Rattle.sheet.specs.FirstWrong.{CanStand, FirstWrong}
 use Rattle.sheet.proofs.Lines.{Cut, unbroken, broken, cut}
 use Rattle.sheet.proofs.Once.{wrong-once, good-not-wrong}
-use Rattle.sheet.proofs.Runs.{Run, none, then, run-append, run-split, run-once, run-one, after-unbroken, first, run-reads, Stop}
+use Rattle.sheet.proofs.Runs.{Run, none, then, run-append, run-split, run-once, run-one, after-unbroken, first, run-reads, Halt}
 use Rattle.sheet.proofs.Runs.{at-end, at-fault, Course, course}
 use Rattle.sheet.proofs.Matching.{at-start, run-stage, ends-written, written-is-read}
 use Rattle.sheet.proofs.Fronts.{can-run, run-can}
@@ -22,7 +22,7 @@ wrong-is-first s k r = go (course r .stop)
     c : Course start 1 s (wrong k)
     c = course r
 
-    go : Stop (c .end) (1 + length (c .lines)) (c .rest) (wrong k) → FirstWrong s k
+    go : Halt (c .end) (1 + length (c .lines)) (c .rest) (wrong k) → FirstWrong s k
     go (at-end z f e) = absurd (let z : _≡_ {A = ℕ} 0 1 = cc in omega arith)
     go (at-fault n e) =
         let h : k ≡ 1 + length (c .lines) = cc in
@@ -32,12 +32,12 @@ wrong-is-first s k r = go (course r .stop)
           parts = c .parts;
           number = omega arith;
           stand = run-can (c .lines) (c .run);
-          next-not = λ l x q w.
+          next-cannot = λ l x q w.
               let p = can-run (c .lines ++ (l ∷ [])) w in
               let b = run-split (c .lines) (l ∷ []) (p .1) in
               let a = run-one (subst (λ y. Run y (l ∷ []) (p .0)) (run-once (c .lines) (b .front) (c .run)) (b .back)) in
               n l x (p .0) (subst⁻¹ (λ y. Ended y l x) q (first l x (after-unbroken a))) a;
-          no-sheet = λ t w q. good-not-wrong (written-is-read t w) (subst (λ y. Reads start 1 y (wrong k)) q r);
+          no-sheet = λ t w. good-not-wrong (written-is-read t (w .stands)) (subst (λ y. Reads start 1 y (wrong k)) (w .is) r);
         }
 
 -- And the first wrong line is reported: those before it are let stand, and then no line can come, and the sheet cannot end.
@@ -51,14 +51,14 @@ first-is-wrong s k f =
     go (broken l x d) r e =
         unfit l x d
         (λ st′ a.
-        f .next-not l x (d .parts ∙ sym (append-assoc l (feed ∷ []) x)) (run-can (f .before ++ (l ∷ [])) (run-append r (then l a none))))
+        f .next-cannot l x (d .parts ∙ sym (append-assoc l (feed ∷ []) x)) (run-can (f .before ++ (l ∷ [])) (run-append r (then l a none))))
         (ap wrong e)
     go {st} (unbroken u) r e =
         short u
         (λ z n.
         let w = ends-written (run-stage [] at-start r) n in
-        f .no-sheet (tableOf st) (w .stands)
-        (f .parts ∙ ap (λ x. labelLines (f .before) ++ x) z ∙ append-nil (labelLines (f .before)) ∙ w .is))
+        let e : s ≡ labelLines (f .before) = f .parts ∙ ap (λ x. labelLines (f .before) ++ x) z ∙ append-nil (labelLines (f .before)) in
+        f .no-sheet (tableOf st) (record { stands = w .stands; is = e ∙ w .is }))
         (ap wrong e)
 
 -- so at most one line is the first wrong one

@@ -35,39 +35,39 @@ can-run ls c =
 
 -- ---- and the other way: after lines that are let stand others can come, up to the orders. For that there is always a new label: of the
 -- numbers from 0 to the number of labels, as texts, not all are labels already.
-data Place (ls : List (List ℕ)) (l : List ℕ) : Type 0 where
-  stands : (k : ℕ) → k < length ls → getD ls k [] ≡ l → Place ls l
-  is-new : New ls l → Place ls l
+data InList (ls : List (List ℕ)) (l : List ℕ) : Type 0 where
+  there : (k : ℕ) → k < length ls → getD ls k [] ≡ l → InList ls l
+  missing : New ls l → InList ls l
 
-place : (ls : List (List ℕ)) (l : List ℕ) → Place ls l
-place ls l =
+look : (ls : List (List ℕ)) (l : List ℕ) → InList ls l
+look ls l =
     elim (exists (λ k. getD ls k [] ≡ l) (λ k. List-discrete ℕ-discrete (getD ls k []) l) (length ls)) [
-      | inl w ↦ stands (w .0) (w .1) (w .2)
-      | inr n ↦ is-new n
+      | inl w ↦ there (w .0) (w .1) (w .2)
+      | inr n ↦ missing n
     ]
 
-new-dec : {ls : List (List ℕ)} {l : List ℕ} → Place ls l → Dec (New ls l)
-new-dec (stands k h e) = no (λ n. n k h e)
-new-dec (is-new n) = yes n
+new-dec : {ls : List (List ℕ)} {l : List ℕ} → InList ls l → Dec (New ls l)
+new-dec (there k h e) = no (λ n. n k h e)
+new-dec (missing n) = yes n
 
-at : {ls : List (List ℕ)} {l : List ℕ} → Place ls l → ℕ
-at (stands k h e) = k
-at (is-new n) = 0
+position : {ls : List (List ℕ)} {l : List ℕ} → InList ls l → ℕ
+position (there k h e) = k
+position (missing n) = 0
 
-at-label : {ls : List (List ℕ)} {l : List ℕ} (p : Place ls l) → (New ls l → ⊥) → (at p < length ls) × (getD ls (at p) [] ≡ l)
-unfolding at
-at-label (stands k h e) o = (h, e)
-at-label (is-new n) o = absurd (o n)
+position-label : {ls : List (List ℕ)} {l : List ℕ} (p : InList ls l) → (New ls l → ⊥) → (position p < length ls) × (getD ls (position p) [] ≡ l)
+unfolding position
+position-label (there k h e) o = (h, e)
+position-label (missing n) o = absurd (o n)
 
 new-label : (ls : List (List ℕ)) → (i : ℕ) × (i < suc (length ls)) × New ls (text i)
-new-label ls = go (exists (λ i. New ls (text i)) (λ i. new-dec (place ls (text i))) (suc (length ls)))
+new-label ls = go (exists (λ i. New ls (text i)) (λ i. new-dec (look ls (text i))) (suc (length ls)))
   where
     go : ((i : ℕ) × (i < suc (length ls)) × New ls (text i)) ⊎ ((i : ℕ) → i < suc (length ls) → New ls (text i) → ⊥)
         → (i : ℕ) × (i < suc (length ls)) × New ls (text i)
     go (inl w) = w
     go (inr old) =
-        let f : ℕ → ℕ = λ i. at (place ls (text i)) in
-        let g : (i : ℕ) → i < suc (length ls) → (f i < length ls) × (getD ls (f i) [] ≡ text i) = λ i h. at-label (place ls (text i)) (old i h) in
+        let f : ℕ → ℕ = λ i. position (look ls (text i)) in
+        let g : (i : ℕ) → i < suc (length ls) → (f i < length ls) × (getD ls (f i) [] ≡ text i) = λ i h. position-label (look ls (text i)) (old i h) in
         absurd (crowded (length ls) f (λ i k h q e. text-once i k (sym (g i h .1) ∙ ap (λ p. getD ls p []) e ∙ g k q .1)) (λ i h. g i h .0))
 
 -- a number that is no more than the limit of rows has the form of a label

@@ -11,7 +11,7 @@ use Rattle.theory.specs.Limits.{rows, order}
 use Rattle.theory.specs.Table.{absent, Order, Entries}
 use Rattle.sheet.specs.Text.{text, rowsHead, colsHead, ordersHead}
 use Rattle.sheet.specs.Labels.{Labels}
-use Rattle.sheet.specs.Sheet.{Labelled, Stands, labelLines, isAbsent, presentCount, orderText, orderLines, headed, sheetLines, sheetOf}
+use Rattle.sheet.specs.Sheet.{Labelled, Stands, labelLines, isAbsent, presentCount, orderText, orderLines, headed, sheetLines, sheetOf, IsSheet}
 use Rattle.sheet.specs.Reading.{of-rows, of-cols, of-orders, State, start, After, heading, row-label, col-label, order-line, Final}
 use Rattle.sheet.specs.Reading.{Outcome, good, tableOf, Reads, done}
 use Rattle.sheet.proofs.Slots.{labels-none, labels-more, labels-new, labels-form, length-more}
@@ -20,7 +20,7 @@ use Rattle.sheet.proofs.Orders.{absent-is, absent-not, order-present, l
 use Rattle.sheet.proofs.Orders.{count-absent, count-one, count-le, place-row, place-col, cell, row-inside, col-inside, row-col}
 use Rattle.sheet.proofs.Orders.{entries-none, entries-append, entries-right, entries-absent, entries-one}
 use Rattle.sheet.proofs.Once.{good-once}
-use Rattle.sheet.proofs.Runs.{Run, none, then, run-append, run-reads, Stop, at-end, at-fault, Course, course}
+use Rattle.sheet.proofs.Runs.{Run, none, then, run-append, run-reads, Halt, at-end, at-fault, Course, course}
 
 -- the state in each section
 abbrev pub inRows : ℕ → List (List ℕ) → State
@@ -186,29 +186,25 @@ rendered (in-orders m rs cs e w k x y q) s =
           ∙ ap (λ z. a ++ (b ++ headed ordersHead (presentCount (e ++ gap) + m) z)) h;
     }
 
--- the bytes are the sheet of a table within the limits
-pub record Written (t : Labelled) (s : List ℕ) : Type 0 where
-  pub is : s ≡ sheetOf t
-  pub stands : Stands t
-
-pub ends-written : {st : State} {ls : List (List ℕ)} → Stage st ls → Final st → Written (tableOf st) (labelLines ls)
+-- at an end all bytes are a sheet
+pub ends-written : {st : State} {ls : List (List ℕ)} → Stage st ls → Final st → IsSheet (tableOf st) (labelLines ls)
 ends-written {st} q f =
     let r = rendered q (f .last) in
     let e : presentCount (tableOf st .entries) + st .left ≡ presentCount (tableOf st .entries) = omega (arith, f .none-left) in
     record { is = ap labelLines (r .is ∙ ap (λ k. sheetLines k (tableOf st)) e); stands = r .stands }
 
 -- a sheet that is read is what the writer writes for its table, byte for byte
-pub read-is-written : (s : List ℕ) (t : Labelled) → Reads start 1 s (good t) → Written t s
+pub read-is-written : (s : List ℕ) (t : Labelled) → Reads start 1 s (good t) → IsSheet t s
 read-is-written s t r = go (course r .stop)
   where
     c : Course start 1 s (good t)
     c = course r
 
-    go : Stop (c .end) (1 + length (c .lines)) (c .rest) (good t) → Written t s
+    go : Halt (c .end) (1 + length (c .lines)) (c .rest) (good t) → IsSheet t s
     go (at-end z f e) =
         let h : tableOf (c .end) ≡ t = cc in
-        subst (λ x. Written x s) h
-        (subst⁻¹ (λ x. Written (tableOf (c .end)) x) (c .parts ∙ ap (λ x. labelLines (c .lines) ++ x) z ∙ append-nil (labelLines (c .lines)))
+        subst (λ x. IsSheet x s) h
+        (subst⁻¹ (λ x. IsSheet (tableOf (c .end)) x) (c .parts ∙ ap (λ x. labelLines (c .lines) ++ x) z ∙ append-nil (labelLines (c .lines)))
         (ends-written (run-stage [] at-start (c .run)) f))
     go (at-fault n e) = absurd (let z : _≡_ {A = ℕ} 0 1 = cc in omega arith)
 
@@ -229,7 +225,7 @@ run-cols rs a (l ∷ b) p =
     (subst (λ y. Run (inCols (length b) rs (a ++ (l ∷ []))) b (inCols 0 rs y)) e (run-cols rs (a ++ (l ∷ [])) b (subst⁻¹ (λ y. Labels y) e p)))
 
 -- the lines ls say all the entries, and m orders are still due; what is said ends with the last order
-pub record Says (a : State) (ls rs cs : List (List ℕ)) (all : List ℤ) (m : ℕ) : Type 0 where
+pub record RunsTo (a : State) (ls rs cs : List (List ℕ)) (all : List ℤ) (m : ℕ) : Type 0 where
   pub said : List ℤ
   pub gap : ℕ
   pub parts : all ≡ said ++ replicate gap absent
@@ -243,7 +239,7 @@ absent-more (suc d) r = ap (λ x. absent ∷ x) (absent-more d r)
 -- the order lines still to be read, after e and d absent places; by cases on the next entry
 module _ (rs cs : List (List ℕ)) (m : ℕ) where
   abbrev Rest : List ℤ → ℕ → List ℤ → Type 0
-  Rest e d r = Says (inOrders (presentCount r + m) rs cs e) (orderLines (length rs) (length e + d) r) rs cs (e ++ (replicate d absent ++ r)) m
+  Rest e d r = RunsTo (inOrders (presentCount r + m) rs cs e) (orderLines (length rs) (length e + d) r) rs cs (e ++ (replicate d absent ++ r)) m
 
   absent-next : (e : List ℤ) (d : ℕ) (v : ℤ) (r : List ℤ) → isAbsent v ≡ true → Rest e (suc d) r → Rest e d (v ∷ r)
   unfolding orderLines presentCount
@@ -314,7 +310,7 @@ module _ (rs cs : List (List ℕ)) (m : ℕ) where
 
 -- the lines of a table's sheet stand one after the other, with m added to the count of its orders
 pub run-sheet : (m : ℕ) (t : Labelled) → Stands t → presentCount (t .entries) + m ≤ length (t .row-labels) * length (t .row-labels)
-    → Says start (sheetLines (presentCount (t .entries) + m) t) (t .row-labels) (t .col-labels) (t .entries) m
+    → RunsTo start (sheetLines (presentCount (t .entries) + m) t) (t .row-labels) (t .col-labels) (t .entries) m
 run-sheet m t w k =
     let rs = t .row-labels in
     let cs = t .col-labels in

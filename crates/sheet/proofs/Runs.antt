@@ -69,9 +69,9 @@ run-reads {a} {b} k x o (then {st′ = c} {ls = ls} l y p) r =
     (run-reads (suc k) x o p (subst (λ i. Reads b i x o) e r)))
 
 -- where a reading stops, with k the number of the next line: where the sheet may end, or where no line that stands comes next
-pub data Stop (st : State) (k : ℕ) (s : List ℕ) (o : Outcome) : Type 0 where
-  at-end : s ≡ [] → Final st → o ≡ good (tableOf st) → Stop st k s o
-  at-fault : ((l x : List ℕ) (st′ : State) → Ended s l x → After st l st′ → ⊥) → o ≡ wrong k → Stop st k s o
+pub data Halt (st : State) (k : ℕ) (s : List ℕ) (o : Outcome) : Type 0 where
+  at-end : s ≡ [] → Final st → o ≡ good (tableOf st) → Halt st k s o
+  at-fault : ((l x : List ℕ) (st′ : State) → Ended s l x → After st l st′ → ⊥) → o ≡ wrong k → Halt st k s o
 
 pub record Course (a : State) (k : ℕ) (s : List ℕ) (o : Outcome) : Type 0 where
   pub lines : List (List ℕ)
@@ -79,14 +79,14 @@ pub record Course (a : State) (k : ℕ) (s : List ℕ) (o : Outcome) : Type 0 wh
   pub end : State
   pub run : Run a lines end
   pub parts : s ≡ labelLines lines ++ rest
-  pub stop : Stop end (k + length lines) rest o
+  pub stop : Halt end (k + length lines) rest o
 
 -- a reading that stops at once
-stopped : {a : State} {k : ℕ} {s : List ℕ} {o : Outcome} → Stop a k s o → Course a k s o
+stopped : {a : State} {k : ℕ} {s : List ℕ} {o : Outcome} → Halt a k s o → Course a k s o
 unfolding labelLines
 stopped {a} {k} {s} {o} h =
     let e : k ≡ k + 0 = omega arith in
-    record { lines = []; rest = s; end = a; run = none; parts = refl; stop = subst (λ i. Stop a i s o) e h }
+    record { lines = []; rest = s; end = a; run = none; parts = refl; stop = subst (λ i. Halt a i s o) e h }
 
 -- every reading has such a course
 pub course : {a : State} {k : ℕ} {s : List ℕ} {o : Outcome} → Reads a k s o → Course a k s o
@@ -107,5 +107,5 @@ course {k = k} {s} {o} (next l x st′ d y r) =
           d .parts
           ∙ sym (append-assoc l (feed ∷ []) x)
           ∙ ap (λ z. ended l ++ z) (c .parts) ∙ sym (append-assoc (ended l) (labelLines (c .lines)) (c .rest));
-      stop = subst (λ i. Stop (c .end) i (c .rest) o) e (c .stop);
+      stop = subst (λ i. Halt (c .end) i (c .rest) o) e (c .stop);
     }

@@ -56,12 +56,12 @@ pub slot-at : (ls : List (List ℕ)) (x : List ℕ) (k : ℕ) → Short ls → k
 unfolding slots
 slot-at [] x k s h = absurd (omega arith)
 slot-at (l ∷ ls) x zero s h =
-    ap (λ y. take 8 y) (append-assoc (filled l) (slots ls) x) ∙ take-at (filled l) (slots ls ++ x) 8 (filled-length l (s 0 (omega arith)))
+    ap (λ y. take width y) (append-assoc (filled l) (slots ls) x) ∙ take-at (filled l) (slots ls ++ x) width (filled-length l (s 0 (omega arith)))
 slot-at (l ∷ ls) x (suc k) s h =
     let e : width * suc k ≡ length (filled l) + width * k = omega (arith, filled-length l (s 0 (omega arith))) in
-    ap (λ y. take 8 (drop (width * suc k) y)) (append-assoc (filled l) (slots ls) x)
-    ∙ ap (λ i. take 8 (drop i (filled l ++ (slots ls ++ x)))) e
-    ∙ ap (λ y. take 8 y) (drop-append-add (filled l) (slots ls ++ x) (width * k)) ∙ slot-at ls x k (short-tail l ls s) (omega arith)
+    ap (λ y. take width (drop (width * suc k) y)) (append-assoc (filled l) (slots ls) x)
+    ∙ ap (λ i. take width (drop i (filled l ++ (slots ls ++ x)))) e
+    ∙ ap (λ y. take width y) (drop-append-add (filled l) (slots ls ++ x) (width * k)) ∙ slot-at ls x k (short-tail l ls s) (omega arith)
 
 pub labels-short : (ls : List (List ℕ)) → Labels ls → Short ls
 labels-short ls p k h = p .form k h .few

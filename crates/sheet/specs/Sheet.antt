@@ -75,3 +75,8 @@ sheetLines k t =
 -- "So one table with labels has one sheet."
 abbrev pub sheetOf : Labelled → List ℕ
 sheetOf t = labelLines (sheetLines (presentCount (t .entries)) t)
+
+-- the bytes s are the sheet of the labelled table t, which is within the limits
+pub record IsSheet (t : Labelled) (s : List ℕ) : Type 0 where
+  pub stands : Stands t
+  pub is : s ≡ sheetOf t

@@ -13,9 +13,9 @@ use Rattle.orders.proofs.Refusals.{given-once, not-both, right-lengths}
 use Rattle.handed.proofs.Basics.{in-size, sized, entries-known}
 use Rattle.sheet.specs.Text.{over}
 use Rattle.sheet.specs.Labels.{width, Labels, slots}
-use Rattle.sheet.specs.Sheet.{Labelled, Stands, sheetOf}
+use Rattle.sheet.specs.Sheet.{Labelled, Stands, sheetOf, IsSheet}
 use Rattle.sheet.proofs.Slots.{slots-length, labels-short}
-use Rattle.sheet.proofs.Matching.{Written, read-is-written, written-is-read}
+use Rattle.sheet.proofs.Matching.{read-is-written, written-is-read}
 use Rattle.reader.specs.Promise as reading
 use Rattle.reader.specs.Promise.{Lent, written, ReadPromise, read}
 use Rattle.reader.proofs.PromiseLaws.{all-clear as read-clear}
@@ -92,7 +92,7 @@ pub write-back : (s : List ℕ) (m m′ : Lent) (n : ℕ) → ReadPromise s m m�
 write-back s m m′ n (reading.refused k l f e) o o′ a g p = not-both n k [] f
 write-back s m m′ n (reading.wrong-line k c r f e) o o′ a g p = not-both n 10 (k ∷ []) f
 write-back s m m′ n (read t c r f e) o o′ a g p =
-    let x : Written t s = read-is-written s t r in
+    let x : IsSheet t s = read-is-written s t r in
     let st : Stands t = x .stands in
     let q : n ≡ length (t .row-labels) = given-once n (length (t .row-labels)) f in
     let tl : length (t .entries) ≡ n * n = st .square ∙ ap (λ y. y * y) (sym q) in

@@ -7,7 +7,7 @@ use mathlib.Core.Logic.{⊎-elim}
 use mathlib.Core.List.{List}
 use borrow.Author.Tests.{not-true, not-false}
 use lib.ListN.{length, getD}
-use Rattle.sheet.proofs.Numbers.{Digit}
+use Rattle.sheet.specs.Text.{Digit}
 use Rattle.fields.proofs.Answers.{front-found, front-none}
 use Rattle.fields.proofs.NumberLaws.{SoFar, none, one-more, ends-here, leading-zero, above-limit, no-digit, stops-end, stops-byte}
 use Rattle.fields.proofs.front_number.Statement.{statement}

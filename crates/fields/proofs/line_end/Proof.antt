@@ -1,51 +1,18 @@
--- The first line feed is looked for. Assumes nothing.
+-- A line feed that is found ends a line. Assumes nothing.
 use borrow.Author.Needs.{needs}
-use native.Mathlib.Omega.{arith}
-use Prim.Native.Nat.{ℕ, _≤_, _<_, _-_}
-use mathlib.Core.Logic.{_≢_}
-use borrow.Author.Count.{below-more}
-use lib.ListN.{length, getD}
-use Rattle.sheet.specs.Text.{feed}
+use Rattle.fields.proofs.Answers.{count-found, count-none}
+use Rattle.fields.proofs.LineLaws.{line-found, line-none}
 use Rattle.fields.proofs.line_end.Statement.{statement}
 use Rattle.fields.proofs.line_end.Tie as tie
 
-abbrev Inv-loop : tie.InvT-loop
-Inv-loop s i₀ i = (i ≤ length s) × ((k : ℕ) → k < i → getD s k 0 ≢ feed)
+before-feed-requires : tie.Need-before-feed-requires
+before-feed-requires c κs = search needs
 
-abbrev μ-loop : tie.MeasureT-loop
-μ-loop s i₀ i = length s - i
+returns : tie.Need-returns
+returns c = count-none (line-none (c .before .before-feed .ensures) (c .if1 .taken))
 
-loop-holds : tie.Need-loop-holds Inv-loop μ-loop
-loop-holds c = (omega arith, λ k h. absurd (omega arith))
-
-shared-slice-read-if1 : tie.Need-shared-slice-read-if1 Inv-loop μ-loop
-shared-slice-read-if1 c = search needs
-
-returns : tie.Need-returns Inv-loop μ-loop
-returns c = record { inside = omega arith; before = c .before .before .before .loop .inv .1; here = λ h. c .if1 .taken }
-
-add-i : tie.Need-add-i Inv-loop μ-loop
-add-i c = search needs
-
-loop-less : tie.Need-loop-less Inv-loop μ-loop
-loop-less c = search needs
-
-loop-again : tie.Need-loop-again Inv-loop μ-loop
-loop-again c = (omega arith, below-more _ _ (c .before .before .before .loop .inv .1) (c .if1 .left))
-
-returns-2 : tie.Need-returns-2 Inv-loop μ-loop
-returns-2 c = record { inside = omega arith; before = c .before .loop .inv .1; here = λ h. absurd (omega arith) }
+returns-2 : tie.Need-returns-2
+returns-2 c = count-found _ (line-found (c .before .before-feed .ensures) (c .if1 .left))
 
 pub line-end-spec : {M : Type 1} → statement M
-line-end-spec =
-    tie.close
-    (tie.spec
-    Inv-loop
-    μ-loop
-    loop-holds
-    shared-slice-read-if1
-    returns
-    add-i
-    loop-less
-    loop-again
-    returns-2)
+line-end-spec = tie.close (tie.spec before-feed-requires returns returns-2)

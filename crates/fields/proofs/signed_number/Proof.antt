@@ -3,7 +3,7 @@ use borrow.Author.Needs.{needs}
 use native.Mathlib.Omega.{arith}
 use Rattle.fields.proofs.Answers.{signed-found, signed-none}
 use Rattle.sheet.proofs.Bytes.{rest}
-use Rattle.fields.specs.Fields.{NumberIs, UnsignedOf}
+use Rattle.fields.specs.Fields.{NumberIs, CountOf}
 use lib.ListN.{drop}
 use Rattle.fields.proofs.SignedLaws.{signed-empty, minus-nothing, minus-zero, minus-found, minus-fits, plain-nothing, plain-found, plain-fits}
 use Rattle.fields.proofs.signed_number.Statement.{statement}
@@ -38,7 +38,7 @@ abbrev start : tie.After-unsigned-number → tie.Start
 start c = c .before .before .before .before .before .before
 
 told : (c : tie.After-unsigned-number)
-    → UnsignedOf (NumberIs (drop 1 (start c .args .s .now)) (start c .args .limit)) (c .unsigned-number .result)
+    → CountOf (NumberIs (drop 1 (start c .args .s .now)) (start c .args .limit)) (c .unsigned-number .result)
 told c = rw (rest (start c .args .s .now) 1) at (c .unsigned-number .ensures)
 
 returns-2 : tie.Need-returns-2

@@ -1,7 +1,7 @@
 -- A number that takes the whole text. Assumes nothing.
 use borrow.Author.Needs.{needs}
 use Rattle.fields.specs.Fields.{FrontIs}
-use Rattle.fields.proofs.Answers.{unsigned-found, unsigned-none}
+use Rattle.fields.proofs.Answers.{count-found, count-none}
 use Rattle.fields.proofs.NumberLaws.{no-number, bytes-behind, all-of-it}
 use Rattle.fields.proofs.unsigned_number.Statement.{statement}
 use Rattle.fields.proofs.unsigned_number.Tie as tie
@@ -16,7 +16,7 @@ enum-told : tie.Need-enum-told
 enum-told c = search needs
 
 returns : tie.Need-returns
-returns c = unsigned-none (no-number _ _ (c .before .before .front-number .ensures .none (c .enum-told .given .1)))
+returns c = count-none (no-number _ _ (c .before .before .front-number .ensures .none (c .enum-told .given .1)))
 
 -- the number that stands at the front
 number : (c : tie.After-known-told)
@@ -25,10 +25,10 @@ number : (c : tie.After-known-told)
 number c = c .before .before .before .front-number .ensures .found _ _ (c .before .value .given .1)
 
 returns-2 : tie.Need-returns-2
-returns-2 c = unsigned-none (bytes-behind (number (c .before)) (c .if1 .taken))
+returns-2 c = count-none (bytes-behind (number (c .before)) (c .if1 .taken))
 
 returns-3 : tie.Need-returns-3
-returns-3 c = unsigned-found _ (all-of-it (number (c .before)) (c .if1 .left))
+returns-3 c = count-found _ (all-of-it (number (c .before)) (c .if1 .left))
 
 pub unsigned-number-spec : {M : Type 1} → statement M
 unsigned-number-spec =

@@ -5,7 +5,7 @@ use Prim.Native.Nat.{_-_, _≤_}
 use mathlib.Core.Path.{refl, sym, subst}
 use mathlib.Core.List.{[], _∷_, _++_, append-assoc}
 use lib.ListN.{length}
-use Rattle.lettering.proofs.PutLaws.{puts-same, first-room, Begun, begun-inside, begun-left, begun-total, begun-whole}
+use Rattle.lettering.proofs.PutLaws.{puts-same, first-room, FirstPut, tail-inside, tail-room, total-fits, both-put}
 use Rattle.sheet.specs.Text.{text, feed}
 use Rattle.lettering.proofs.put_heading.Statement.{statement}
 use Rattle.lettering.proofs.put_heading.Tie as tie
@@ -16,9 +16,9 @@ fits s = subst (λ x. length x ≤ length (s .args .out .now)) (append-assoc (s 
 abbrev start : tie.After-put → tie.Start
 start c = c .before .before .before .before
 
-begun : (c : tie.After-put)
-    → Begun (start c .args .head .now) (text (start c .args .count) ++ feed ∷ []) (start c .args .out .now) (c .put .last .1 .0) (c .put .result)
-begun c = record { put = c .put .ensures; fits = fits (start c) }
+first-put : (c : tie.After-put)
+    → FirstPut (start c .args .head .now) (text (start c .args .count) ++ feed ∷ []) (start c .args .out .now) (c .put .last .1 .0) (c .put .result)
+first-put c = record { put = c .put .ensures; fits = fits (start c) }
 
 put-requires : tie.Need-put-requires
 put-requires c κs =
@@ -26,19 +26,19 @@ put-requires c κs =
     first-room (s .args .head .now) (text (s .args .count) ++ feed ∷ []) (s .args .out .now) (fits s)
 
 sub-put-count : tie.Need-sub-put-count
-sub-put-count c = omega (arith, begun-inside (begun (c .before .before)))
+sub-put-count c = omega (arith, tail-inside (first-put (c .before .before)))
 
 part-put-count-start : tie.Need-part-put-count-start
-part-put-count-start c = omega (arith, begun-inside (begun (c .before .before)))
+part-put-count-start c = omega (arith, tail-inside (first-put (c .before .before)))
 
 part-put-count-end : tie.Need-part-put-count-end
-part-put-count-end c = omega (arith, begun-inside (begun (c .before .before)))
+part-put-count-end c = omega (arith, tail-inside (first-put (c .before .before)))
 
 put-count-requires : tie.Need-put-count-requires
-put-count-requires c κs = begun-left (begun (c .before .before .before)) _ refl
+put-count-requires c κs = tail-room (first-put (c .before .before .before)) _ refl
 
 add-result : tie.Need-add-result
-add-result c = begun-total (begun (c .before .before .before .before .before .before)) (c .before .before .put-count .ensures) (search needs)
+add-result c = total-fits (first-put (c .before .before .before .before .before .before)) (c .before .before .put-count .ensures) (search needs)
 
 same-length : tie.Need-same-length
 same-length c = search needs
@@ -48,7 +48,7 @@ returns c =
     let b = c .before .before .before .before .before .before in
     let s = start b in
     puts-same _ _ (s .args .out .now) _ _ (sym (append-assoc (s .args .head .now) (text (s .args .count)) (feed ∷ [])))
-    (begun-whole (begun b) _ refl (c .before .before .put-count .ensures))
+    (both-put (first-put b) _ refl (c .before .before .put-count .ensures))
 
 pub put-heading-spec : {M : Type 1} → statement M
 put-heading-spec =

@@ -6,7 +6,7 @@ use mathlib.Core.Path.{_≡_, refl, sym, ap, _∙_}
 use mathlib.Core.List.{[], _∷_}
 use lib.ListN.{length, set}
 use mir.Facts.{toZ-ofZ}
-use Rattle.lettering.proofs.PutLaws.{puts-none, puts-same, puts-length, puts-byte, Begun, begun-inside, begun-left, begun-total, begun-whole}
+use Rattle.lettering.proofs.PutLaws.{puts-none, puts-same, puts-length, puts-byte, FirstPut, tail-inside, tail-room, total-fits, both-put}
 use Rattle.lettering.proofs.TextLaws.{signed-minus, signed-plus}
 use Rattle.sheet.specs.Text.{text, signed, minus}
 use Rattle.lettering.proofs.put_value.Statement.{statement}
@@ -25,10 +25,10 @@ above c =
     signed-plus (s .args .v) (simp (toZ-ofZ (s .fits .v)) at (c .if1 .left))
     ∙ ap text (sym (simp (toZ-ofZ (s .fits .v)) at (c .before .magnitude .ensures)))
 
-begun : (c : tie.Then1)
-    → Begun (minus ∷ []) (text (c .before .magnitude .result)) (c .before .before .before .args .out .now)
+first-put : (c : tie.Then1)
+    → FirstPut (minus ∷ []) (text (c .before .magnitude .result)) (c .before .before .before .args .out .now)
     (set (c .before .before .before .args .out .now) 0 minus) 1
-begun c =
+first-put c =
     let s = c .before .before .before in
     let o = s .args .out .now in
     record {
@@ -43,29 +43,29 @@ slice-write-out : tie.Need-slice-write-out
 slice-write-out c = omega (arith, c .before .before .before .pre, ap length (below c))
 
 sub-put-number : tie.Need-sub-put-number
-sub-put-number c = omega (arith, begun-inside (begun c))
+sub-put-number c = omega (arith, tail-inside (first-put c))
 
 part-put-number-start : tie.Need-part-put-number-start
-part-put-number-start c = omega (arith, begun-inside (begun c))
+part-put-number-start c = omega (arith, tail-inside (first-put c))
 
 part-put-number-end : tie.Need-part-put-number-end
-part-put-number-end c = omega (arith, begun-inside (begun c))
+part-put-number-end c = omega (arith, tail-inside (first-put c))
 
 put-number-requires : tie.Need-put-number-requires
-put-number-requires c κs = begun-left (begun (c .before)) _ refl
+put-number-requires c κs = tail-room (first-put (c .before)) _ refl
 
 add-result : tie.Need-add-result
-add-result c = begun-total (begun (c .before .before .before .before)) (c .before .before .put-number .ensures) (search needs)
+add-result c = total-fits (first-put (c .before .before .before .before)) (c .before .before .put-number .ensures) (search needs)
 
 same-length : tie.Need-same-length
 same-length c =
-    let b = begun (c .before .before .before .before) in
-    puts-length _ _ _ _ (begun-whole b _ refl (c .before .before .put-number .ensures)) (b .fits)
+    let b = first-put (c .before .before .before .before) in
+    puts-length _ _ _ _ (both-put b _ refl (c .before .before .put-number .ensures)) (b .fits)
 
 returns : tie.Need-returns
 returns c =
     let b = c .before .before .before .before in
-    puts-same _ _ _ _ _ (sym (below b)) (begun-whole (begun b) _ refl (c .before .before .put-number .ensures))
+    puts-same _ _ _ _ _ (sym (below b)) (both-put (first-put b) _ refl (c .before .before .put-number .ensures))
 
 put-number-requires-2 : tie.Need-put-number-requires-2
 put-number-requires-2 c κs = omega (arith, c .before .before .before .before .pre, ap length (above (c .before)))

@@ -1,7 +1,7 @@
 -- A line is kept as a label of its section, or as an order. Assumes nothing.
 use borrow.Author.Needs.{needs}
 use mathlib.Core.Path.{subst}
-use Rattle.reader.specs.Parts.{Place-for}
+use Rattle.reader.specs.Parts.{FewLabels}
 use Rattle.reader.proofs.KeepLaws.{kept-row, unkept-row, kept-col, unkept-col}
 use Rattle.reader.proofs.keep_line.Statement.{statement}
 use Rattle.reader.proofs.keep_line.Tie as tie
@@ -11,7 +11,7 @@ enum-told c = search needs
 
 keep-label-requires : tie.Need-keep-label-requires
 keep-label-requires c κs =
-    let d = c .before .before .before .before in (subst (λ x. Place-for x (d .args .k)) (c .before .enum-told .given .1) (d .pre .room), d .pre .rows-whole)
+    let d = c .before .before .before .before in (subst (λ x. FewLabels x (d .args .k)) (c .before .enum-told .given .1) (d .pre .room), d .pre .rows-whole)
 
 returns : tie.Need-returns
 returns c =
@@ -26,7 +26,7 @@ enum-told-2 c = search needs
 
 keep-label-requires-2 : tie.Need-keep-label-requires-2
 keep-label-requires-2 c κs =
-    let d = c .before .before .before .before in (subst (λ x. Place-for x (d .args .k)) (c .before .enum-told2 .given .1) (d .pre .room), d .pre .cols-whole)
+    let d = c .before .before .before .before in (subst (λ x. FewLabels x (d .args .k)) (c .before .enum-told2 .given .1) (d .pre .room), d .pre .cols-whole)
 
 returns-2 : tie.Need-returns-2
 returns-2 c =

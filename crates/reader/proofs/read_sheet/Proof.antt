@@ -59,7 +59,7 @@ copy-bytes-requires : tie.Need-copy-bytes-requires
 copy-bytes-requires c κs =
     let d = c .before .before .before .before .before .before in
     let e = d .before .before .before .walk .ensures .ended _ (d .before .walked2 .given .1) in
-    (omega (arith, e .few), omega (arith, e .few, lent-well d .rows-length), rows-whole e)
+    (omega (arith, e .few), omega (arith, e .few, lent-well d .rows-length), omega (arith, rows-whole e, cols-whole e))
 
 mul-copy-bytes-2 : tie.Need-mul-copy-bytes-2
 mul-copy-bytes-2 c =
@@ -70,7 +70,7 @@ copy-bytes-requires-2 : tie.Need-copy-bytes-requires-2
 copy-bytes-requires-2 c κs =
     let d = c .before .before .before .before .before .before .before .before .before .before .before in
     let e = d .before .before .before .walk .ensures .ended _ (d .before .walked2 .given .1) in
-    (omega (arith, e .few), omega (arith, e .few, lent-well d .cols-length), cols-whole e)
+    (omega (arith, e .few), omega (arith, e .few, lent-well d .cols-length), omega (arith, rows-whole e, cols-whole e))
 
 returns-5 : tie.Need-returns-5
 returns-5 c =

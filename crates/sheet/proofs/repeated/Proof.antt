@@ -6,13 +6,18 @@ use Prim.Native.Nat.{ℕ, _+_, _*_, _≤_, _<_, _-_}
 use mathlib.Core.Path.{_≡_, sym, _∙_}
 use borrow.Author.Count.{below-more}
 use lib.ListN.{length}
-use Rattle.sheet.specs.Labels.{slot}
+use Rattle.sheet.specs.Labels.{width, slot}
 use Rattle.sheet.proofs.Slots.{part-slot}
 use Rattle.sheet.proofs.repeated.Statement.{statement}
 use Rattle.sheet.proofs.repeated.Tie as tie
 
 abbrev Inv-loop : tie.InvT-loop
-Inv-loop labels k at end i₀ i = (i ≤ k) × (at ≡ 8 * k) × (end ≡ at + 8) × (8 * k + 8 ≤ length labels) × ((j : ℕ) → j < i → slot labels j ≡ slot labels k → ⊥)
+Inv-loop labels k at end i₀ i =
+    (i ≤ k)
+    × (at ≡ width * k)
+    × (end ≡ at + width)
+    × (width * k + width ≤ length labels)
+    × ((j : ℕ) → j < i → slot labels j ≡ slot labels k → ⊥)
 
 abbrev μ-loop : tie.MeasureT-loop
 μ-loop labels k at end i₀ i = k - i
@@ -66,7 +71,7 @@ returns-2 c = let r = c .before .same-text .ensures .holds (c .if2 .taken) in
       earlier = l .i;
       before = omega arith;
       alike =
-          sym (part-slot b (8 * l .i) (8 * l .i + 8) (l .i) (omega arith) (omega arith))
+          sym (part-slot b (width * l .i) (width * l .i + width) (l .i) (omega arith) (omega arith))
           ∙ r ∙ part-slot b _ _ (c .before .before .before .before .before .before .before .before .args .k) (l .inv .1) (l .inv .2);
     })
 
@@ -86,7 +91,7 @@ loop-again c = let b = c .before .before .before .before .before .before .before
       below-more _ _ (l .inv .4)
           (λ e.
           c .before .same-text .ensures .fails (c .if2 .left)
-          (part-slot b (8 * l .i) (8 * l .i + 8) (l .i) (omega arith) (omega arith)
+          (part-slot b (width * l .i) (width * l .i + width) (l .i) (omega arith) (omega arith)
           ∙ e ∙ sym (part-slot b _ _ (c .before .before .before .before .before .before .before .before .args .k) (l .inv .1) (l .inv .2)))),
     )
 

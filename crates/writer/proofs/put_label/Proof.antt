@@ -5,7 +5,7 @@ use mathlib.Core.Path.{_≡_, sym, ap, _∙_}
 use mathlib.Core.List.{[], _∷_}
 use lib.ListN.{length, take}
 use lib.Seq.{length-take-le}
-use Rattle.lettering.proofs.PutLaws.{puts-same, first-room, Begun, byte-inside, byte-total, byte-whole}
+use Rattle.lettering.proofs.PutLaws.{puts-same, first-room, FirstPut, byte-inside, byte-fits, byte-put}
 use Rattle.sheet.specs.Text.{feed}
 use Rattle.writer.specs.Parts.{labelOf}
 use Rattle.writer.proofs.SlotLaws.{label-le, label-take}
@@ -21,8 +21,8 @@ label c =
 abbrev start : tie.After-put → tie.Start
 start c = c .before .before .before .before .before .before
 
-begun : (c : tie.After-put) → Begun (labelOf (start c .args .slot .now)) (feed ∷ []) (start c .args .out .now) (c .put .last .1 .0) (c .put .result)
-begun c = record { put = puts-same _ _ _ _ _ (label (c .before .before .before)) (c .put .ensures); fits = start c .pre }
+first-put : (c : tie.After-put) → FirstPut (labelOf (start c .args .slot .now)) (feed ∷ []) (start c .args .out .now) (c .put .last .1 .0) (c .put .result)
+first-put c = record { put = puts-same _ _ _ _ _ (label (c .before .before .before)) (c .put .ensures); fits = start c .pre }
 
 label-length-requires : tie.Need-label-length-requires
 label-length-requires c κs = search needs
@@ -38,16 +38,16 @@ put-requires c κs =
     omega (arith, ap length (label (c .before .before)), first-room (labelOf (s .args .slot .now)) (feed ∷ []) (s .args .out .now) (s .pre))
 
 slice-write-out : tie.Need-slice-write-out
-slice-write-out c = byte-inside (begun (c .before .before))
+slice-write-out c = byte-inside (first-put (c .before .before))
 
 add-result : tie.Need-add-result
-add-result c = byte-total (begun (c .before .before)) (search needs)
+add-result c = byte-fits (first-put (c .before .before)) (search needs)
 
 same-length : tie.Need-same-length
 same-length c = search needs
 
 returns : tie.Need-returns
-returns c = byte-whole (begun (c .before .before))
+returns c = byte-put (first-put (c .before .before))
 
 pub put-label-spec : {M : Type 1} → statement M
 put-label-spec =

@@ -6,7 +6,7 @@ use mathlib.Core.Path.{_≡_, refl, sym, ap}
 use mathlib.Core.List.{List}
 use lib.ListN.{length, take, drop}
 use Rattle.lettering.specs.Putting.{Puts}
-use Rattle.lettering.proofs.PutLaws.{puts-none, puts-same, puts-length, Begun, begun-inside, begun-left, begun-total, begun-whole}
+use Rattle.lettering.proofs.PutLaws.{puts-none, puts-same, puts-length, FirstPut, tail-inside, tail-room, total-fits, both-put}
 use Rattle.sheet.specs.Labels.{width, slot}
 use Rattle.sheet.specs.Sheet.{labelLines}
 use Rattle.sheet.specs.Text.{ended}
@@ -48,9 +48,9 @@ lent c = ap (λ x. ended (labelOf x)) (part-slot (buffer c) (width * place c) (w
 more-fits : (c : tie.In-loop Inv-loop μ-loop) → length (labelLines (labelsOf (place c + 1) (buffer c))) ≤ length (start c .args .out .now)
 more-fits c = omega (arith, lines-mono (place c + 1) (start c .args .n) (buffer c) (omega arith), c .before .loop .inv .2)
 
-begun : (c : tie.In-loop Inv-loop μ-loop)
-    → Begun (labelLines (labelsOf (place c) (buffer c))) (line c) (start c .args .out .now) (c .before .loop .out) (c .before .loop .at)
-begun c = record { put = c .before .loop .inv .4; fits = omega (arith, more-fits c, ap length (label-line-next (place c) (buffer c))) }
+first-put : (c : tie.In-loop Inv-loop μ-loop)
+    → FirstPut (labelLines (labelsOf (place c) (buffer c))) (line c) (start c .args .out .now) (c .before .loop .out) (c .before .loop .at)
+first-put c = record { put = c .before .loop .inv .4; fits = omega (arith, more-fits c, ap length (label-line-next (place c) (buffer c))) }
 
 loop-holds : tie.Need-loop-holds Inv-loop μ-loop
 unfolding labelsOf labelLines
@@ -72,21 +72,21 @@ part-put-label-end : tie.Need-part-put-label-end Inv-loop μ-loop
 part-put-label-end c = search needs
 
 sub-put-label-2 : tie.Need-sub-put-label-2 Inv-loop μ-loop
-sub-put-label-2 c = omega (arith, begun-inside (begun (c .before)))
+sub-put-label-2 c = omega (arith, tail-inside (first-put (c .before)))
 
 part-put-label-start-2 : tie.Need-part-put-label-start-2 Inv-loop μ-loop
-part-put-label-start-2 c = omega (arith, begun-inside (begun (c .before)))
+part-put-label-start-2 c = omega (arith, tail-inside (first-put (c .before)))
 
 part-put-label-end-2 : tie.Need-part-put-label-end-2 Inv-loop μ-loop
-part-put-label-end-2 c = omega (arith, begun-inside (begun (c .before)))
+part-put-label-end-2 c = omega (arith, tail-inside (first-put (c .before)))
 
 put-label-requires : tie.Need-put-label-requires Inv-loop μ-loop
-put-label-requires c κs = let b = c .before .before in omega (arith, ap length (lent b), begun-left (begun b) _ refl)
+put-label-requires c κs = let b = c .before .before in omega (arith, ap length (lent b), tail-room (first-put b) _ refl)
 
 add-at : tie.Need-add-at Inv-loop μ-loop
 add-at c =
     let b = c .before .before .before .before .before in
-    begun-total (begun b) (puts-same _ _ _ _ _ (lent b) (c .before .before .put-label .ensures)) (search needs)
+    total-fits (first-put b) (puts-same _ _ _ _ _ (lent b) (c .before .before .put-label .ensures)) (search needs)
 
 add-k : tie.Need-add-k Inv-loop μ-loop
 add-k c = search needs
@@ -98,7 +98,7 @@ loop-again : tie.Need-loop-again Inv-loop μ-loop
 loop-again c =
     let b = c .before .before .before .before .before in
     let l = b .before .loop in
-    let p = begun-whole (begun b) _ refl (puts-same _ _ _ _ _ (lent b) (c .before .before .put-label .ensures)) in
+    let p = both-put (first-put b) _ refl (puts-same _ _ _ _ _ (lent b) (c .before .before .put-label .ensures)) in
     let q = puts-same _ _ _ _ _ (sym (label-line-next (place b) (buffer b))) p in
     (omega arith, l .inv .1, l .inv .2, puts-length _ _ _ _ q (more-fits b), q)
 

@@ -6,7 +6,7 @@ use mathlib.Core.Path.{_≡_, refl, sym, ap, subst⁻¹}
 use mathlib.Core.List.{List, [], _∷_, _++_}
 use lib.ListN.{length}
 use mir.Facts.{toZ-ofZ}
-use Rattle.lettering.proofs.PutLaws.{puts-none, puts-same, first-room, Begun, begun-inside, begun-left, begun-total, begun-whole}
+use Rattle.lettering.proofs.PutLaws.{puts-none, puts-same, first-room, FirstPut, tail-inside, tail-room, total-fits, both-put}
 use Rattle.sheet.specs.Text.{blank, text}
 use Rattle.sheet.proofs.Orders.{some-row}
 use Rattle.writer.specs.Parts.{entryBytes, orderEnd}
@@ -33,8 +33,8 @@ fits c = subst⁻¹ (λ x. length x ≤ length (c .before .before .args .out .no
 abbrev start : tie.After-put-count → tie.Start
 start c = c .before .before .before .before
 
-begun : (c : tie.After-put-count) → Begun (row (start c)) (end (start c)) (start c .args .out .now) (c .put-count .last .1 .1 .0) (c .put-count .result)
-begun c = record { put = c .put-count .ensures; fits = fits (c .before .before) }
+first-put : (c : tie.After-put-count) → FirstPut (row (start c)) (end (start c)) (start c .args .out .now) (c .put-count .last .1 .1 .0) (c .put-count .result)
+first-put c = record { put = c .put-count .ensures; fits = fits (c .before .before) }
 
 returns : tie.Need-returns
 returns c =
@@ -53,26 +53,26 @@ put-count-requires c κs =
     let s = c .before .before .before in first-room (row s) (end s) (s .args .out .now) (fits (c .before))
 
 sub-put-order-end : tie.Need-sub-put-order-end
-sub-put-order-end c = omega (arith, begun-inside (begun (c .before .before)))
+sub-put-order-end c = omega (arith, tail-inside (first-put (c .before .before)))
 
 part-put-order-end-start : tie.Need-part-put-order-end-start
-part-put-order-end-start c = omega (arith, begun-inside (begun (c .before .before)))
+part-put-order-end-start c = omega (arith, tail-inside (first-put (c .before .before)))
 
 part-put-order-end-end : tie.Need-part-put-order-end-end
-part-put-order-end-end c = omega (arith, begun-inside (begun (c .before .before)))
+part-put-order-end-end c = omega (arith, tail-inside (first-put (c .before .before)))
 
 put-order-end-requires : tie.Need-put-order-end-requires
 put-order-end-requires c κs =
     let b = c .before .before .before in
     let s = start b in
-    rw (toZ-ofZ (s .fits .v)) (omega (arith, some-row (s .args .n) (s .args .p) (s .pre .0)), begun-left (begun b) _ refl)
+    rw (toZ-ofZ (s .fits .v)) (omega (arith, some-row (s .args .n) (s .args .p) (s .pre .0)), tail-room (first-put b) _ refl)
 
 add-result : tie.Need-add-result
 add-result c =
     let b = c .before .before .before .before .before .before in
     let s = start b in
     let q = puts-same _ _ _ _ _ (ap (λ x. orderEnd (s .args .n) (s .args .p) x) (toZ-ofZ (s .fits .v))) (c .before .before .put-order-end .ensures) in
-    begun-total (begun b) q (search needs)
+    total-fits (first-put b) q (search needs)
 
 same-length : tie.Need-same-length
 same-length c = search needs
@@ -82,7 +82,7 @@ returns-2 c =
     let b = c .before .before .before .before .before .before in
     let s = start b in
     let q = puts-same _ _ _ _ _ (ap (λ x. orderEnd (s .args .n) (s .args .p) x) (toZ-ofZ (s .fits .v))) (c .before .before .put-order-end .ensures) in
-    puts-same _ _ _ _ _ (parts (b .before .before)) (begun-whole (begun b) _ refl q)
+    puts-same _ _ _ _ _ (parts (b .before .before)) (both-put (first-put b) _ refl q)
 
 pub put-order-spec : {M : Type 1} → statement M
 put-order-spec =

@@ -6,7 +6,7 @@ use native.Mathlib.Nat.{mod-lt}
 use mathlib.Core.Path.{refl, ap}
 use mathlib.Core.List.{[], _∷_, _++_}
 use mir.Facts.{sfits-widen, sfits-toZ, fits-ofZ}
-use Rattle.lettering.proofs.PutLaws.{puts-same, first-room, Begun, begun-inside, begun-left, begun-total, begun-whole}
+use Rattle.lettering.proofs.PutLaws.{puts-same, first-room, FirstPut, tail-inside, tail-room, total-fits, both-put}
 use Rattle.lettering.proofs.TextLaws.{widened}
 use Rattle.sheet.specs.Text.{blank, text, signed, ended}
 use Rattle.writer.proofs.put_order_end.Statement.{statement}
@@ -15,10 +15,10 @@ use Rattle.writer.proofs.put_order_end.Tie as tie
 abbrev start : tie.After-put-count → tie.Start
 start c = c .before .before .before
 
-begun : (c : tie.After-put-count)
-    → Begun (text (start c .args .p % start c .args .n + 1) ++ blank ∷ []) (ended (signed (start c .args .v))) (start c .args .out .now)
+first-put : (c : tie.After-put-count)
+    → FirstPut (text (start c .args .p % start c .args .n + 1) ++ blank ∷ []) (ended (signed (start c .args .v))) (start c .args .out .now)
     (c .put-count .last .1 .1 .0) (c .put-count .result)
-begun c = record { put = c .put-count .ensures; fits = start c .pre .1 }
+first-put c = record { put = c .put-count .ensures; fits = start c .pre .1 }
 
 rem-put-count : tie.Need-rem-put-count
 rem-put-count c = search needs
@@ -35,23 +35,23 @@ cast-put-value-line : tie.Need-cast-put-value-line
 cast-put-value-line c = sfits-widen tt (sfits-toZ (fits-ofZ (start (c .before .before) .fits .v)))
 
 sub-put-value-line : tie.Need-sub-put-value-line
-sub-put-value-line c = omega (arith, begun-inside (begun (c .before .before)))
+sub-put-value-line c = omega (arith, tail-inside (first-put (c .before .before)))
 
 part-put-value-line-start : tie.Need-part-put-value-line-start
-part-put-value-line-start c = omega (arith, begun-inside (begun (c .before .before)))
+part-put-value-line-start c = omega (arith, tail-inside (first-put (c .before .before)))
 
 part-put-value-line-end : tie.Need-part-put-value-line-end
-part-put-value-line-end c = omega (arith, begun-inside (begun (c .before .before)))
+part-put-value-line-end c = omega (arith, tail-inside (first-put (c .before .before)))
 
 put-value-line-requires : tie.Need-put-value-line-requires
 put-value-line-requires c κs =
-    let b = c .before .before .before in rw (widened (start b .fits .v)) (begun-left (begun b) _ refl)
+    let b = c .before .before .before in rw (widened (start b .fits .v)) (tail-room (first-put b) _ refl)
 
 add-result : tie.Need-add-result
 add-result c =
     let b = c .before .before .before .before .before .before in
     let q = puts-same _ _ _ _ _ (ap (λ x. ended (signed x)) (widened (start b .fits .v))) (c .before .before .put-value-line .ensures) in
-    begun-total (begun b) q (search needs)
+    total-fits (first-put b) q (search needs)
 
 same-length : tie.Need-same-length
 same-length c = search needs
@@ -60,7 +60,7 @@ returns : tie.Need-returns
 returns c =
     let b = c .before .before .before .before .before .before in
     let q = puts-same _ _ _ _ _ (ap (λ x. ended (signed x)) (widened (start b .fits .v))) (c .before .before .put-value-line .ensures) in
-    begun-whole (begun b) _ refl q
+    both-put (first-put b) _ refl q
 
 pub put-order-end-spec : {M : Type 1} → statement M
 put-order-end-spec =

@@ -3,7 +3,7 @@ use borrow.Author.Needs.{needs}
 use native.Mathlib.Omega.{arith}
 use mathlib.Core.Path.{refl, ap}
 use mathlib.Core.List.{_++_}
-use Rattle.lettering.proofs.PutLaws.{puts-same, first-room, Begun, begun-inside, begun-left, begun-total, begun-whole}
+use Rattle.lettering.proofs.PutLaws.{puts-same, first-room, FirstPut, tail-inside, tail-room, total-fits, both-put}
 use Rattle.sheet.specs.Sheet.{presentCount}
 use Rattle.sheet.specs.Text.{text, ended, ordersHead}
 use Rattle.writer.specs.Parts.{orderBytes}
@@ -13,10 +13,10 @@ use Rattle.writer.proofs.put_order_section.Tie as tie
 abbrev start : tie.After-put-heading → tie.Start
 start c = c .before .before .before .before .before
 
-begun : (c : tie.After-put-heading)
-    → Begun (ended (ordersHead ++ text (presentCount (start c .args .table .now)))) (orderBytes (start c .args .n) 0 (start c .args .table .now))
+first-put : (c : tie.After-put-heading)
+    → FirstPut (ended (ordersHead ++ text (presentCount (start c .args .table .now)))) (orderBytes (start c .args .n) 0 (start c .args .table .now))
     (start c .args .out .now) (c .put-heading .last .1 .1 .0) (c .put-heading .result)
-begun c =
+first-put c =
     let count = c .before .before .before .present-count in
     record { put = puts-same _ _ _ _ _ (ap (λ x. ended (ordersHead ++ text x)) (count .ensures)) (c .put-heading .ensures); fits = start c .pre .1 }
 
@@ -34,25 +34,25 @@ put-heading-requires c κs =
     (first-room (ended (ordersHead ++ text (presentCount t))) (orderBytes (s .args .n) 0 t) (s .args .out .now) (s .pre .1))
 
 sub-put-orders : tie.Need-sub-put-orders
-sub-put-orders c = omega (arith, begun-inside (begun (c .before .before)))
+sub-put-orders c = omega (arith, tail-inside (first-put (c .before .before)))
 
 part-put-orders-start : tie.Need-part-put-orders-start
-part-put-orders-start c = omega (arith, begun-inside (begun (c .before .before)))
+part-put-orders-start c = omega (arith, tail-inside (first-put (c .before .before)))
 
 part-put-orders-end : tie.Need-part-put-orders-end
-part-put-orders-end c = omega (arith, begun-inside (begun (c .before .before)))
+part-put-orders-end c = omega (arith, tail-inside (first-put (c .before .before)))
 
 put-orders-requires : tie.Need-put-orders-requires
-put-orders-requires c κs = (start (c .before .before .before) .pre .0, begun-left (begun (c .before .before .before)) _ refl)
+put-orders-requires c κs = (start (c .before .before .before) .pre .0, tail-room (first-put (c .before .before .before)) _ refl)
 
 add-result : tie.Need-add-result
-add-result c = begun-total (begun (c .before .before .before .before .before .before)) (c .before .before .put-orders .ensures) (search needs)
+add-result c = total-fits (first-put (c .before .before .before .before .before .before)) (c .before .before .put-orders .ensures) (search needs)
 
 same-length : tie.Need-same-length
 same-length c = search needs
 
 returns : tie.Need-returns
-returns c = begun-whole (begun (c .before .before .before .before .before .before)) _ refl (c .before .before .put-orders .ensures)
+returns c = both-put (first-put (c .before .before .before .before .before .before)) _ refl (c .before .before .put-orders .ensures)
 
 pub put-order-section-spec : {M : Type 1} → statement M
 put-order-section-spec =

@@ -9,7 +9,7 @@ use lib.ListN.{length, getD, take}
 use lib.Seq.{take-length}
 use mir.Syntax.{w16}
 use Rattle.lettering.specs.Putting.{Puts}
-use Rattle.lettering.proofs.PutLaws.{puts-none, puts-same, puts-length, Begun, begun-inside, begun-left, begun-total, begun-whole}
+use Rattle.lettering.proofs.PutLaws.{puts-none, puts-same, puts-length, FirstPut, tail-inside, tail-room, total-fits, both-put}
 use Rattle.orders.proofs.Entries.{back}
 use Rattle.sheet.specs.Sheet.{labelLines, orderLines}
 use Rattle.writer.specs.Parts.{orderBytes, entryBytes}
@@ -41,10 +41,10 @@ place c = c .before .loop .p
 abbrev entry : tie.In-loop Inv-loop μ-loop → ℤ
 entry c = getD (table c) (place c) (pos 0)
 
-begun : (c : tie.In-loop Inv-loop μ-loop)
-    → Begun (orderBytes (start c .args .n) 0 (take (place c) (table c))) (entryBytes (start c .args .n) (place c) (entry c)) (start c .args .out .now)
+first-put : (c : tie.In-loop Inv-loop μ-loop)
+    → FirstPut (orderBytes (start c .args .n) 0 (take (place c) (table c))) (entryBytes (start c .args .n) (place c) (entry c)) (start c .args .out .now)
     (c .before .loop .out) (c .before .loop .at)
-begun c =
+first-put c =
     let l = c .before .loop in
     record { put = l .inv .4; fits = next-room (start c .args .n) (table c) (place c) (start c .args .out .now) (omega arith) (l .inv .2) }
 
@@ -59,24 +59,24 @@ shared-slice-copy-out-put-order : tie.Need-shared-slice-copy-out-put-order Inv-l
 shared-slice-copy-out-put-order c = search needs
 
 sub-put-order : tie.Need-sub-put-order Inv-loop μ-loop
-sub-put-order c = omega (arith, begun-inside (begun (c .before)))
+sub-put-order c = omega (arith, tail-inside (first-put (c .before)))
 
 part-put-order-start : tie.Need-part-put-order-start Inv-loop μ-loop
-part-put-order-start c = omega (arith, begun-inside (begun (c .before)))
+part-put-order-start c = omega (arith, tail-inside (first-put (c .before)))
 
 part-put-order-end : tie.Need-part-put-order-end Inv-loop μ-loop
-part-put-order-end c = omega (arith, begun-inside (begun (c .before)))
+part-put-order-end c = omega (arith, tail-inside (first-put (c .before)))
 
 put-order-requires : tie.Need-put-order-requires Inv-loop μ-loop
 put-order-requires c κs =
     let b = c .before .before in
-    rw (back w16 (entry b) (c .before .put-order-arg .given)) (omega (arith, b .before .loop .inv .1), begun-left (begun b) _ refl)
+    rw (back w16 (entry b) (c .before .put-order-arg .given)) (omega (arith, b .before .loop .inv .1), tail-room (first-put b) _ refl)
 
 add-at : tie.Need-add-at Inv-loop μ-loop
 add-at c =
     let b = c .before .before .before .before .before in
     let e = ap (λ x. entryBytes (start b .args .n) (place b) x) (back w16 (entry b) (c .before .before .before .before .put-order-arg .given)) in
-    begun-total (begun b) (puts-same _ _ _ _ _ e (c .before .before .put-order .ensures)) (search needs)
+    total-fits (first-put b) (puts-same _ _ _ _ _ e (c .before .before .put-order .ensures)) (search needs)
 
 add-p : tie.Need-add-p Inv-loop μ-loop
 add-p c = search needs
@@ -90,7 +90,7 @@ loop-again c =
     let l = b .before .loop in
     let n = start b .args .n in
     let e = ap (λ x. entryBytes n (place b) x) (back w16 (entry b) (c .before .before .before .before .put-order-arg .given)) in
-    let p = begun-whole (begun b) _ refl (puts-same _ _ _ _ _ e (c .before .before .put-order .ensures)) in
+    let p = both-put (first-put b) _ refl (puts-same _ _ _ _ _ e (c .before .before .put-order .ensures)) in
     let q = puts-same _ _ _ _ _ (sym (order-lines-next (table b) (place b) (omega arith) n)) p in
     (omega arith, l .inv .1, l .inv .2, puts-length _ _ _ _ q (omega (arith, front-lines n (place b + 1) (table b), l .inv .2)), q)
 

@@ -2,7 +2,7 @@
 use borrow.Author.Needs.{needs}
 use native.Mathlib.Omega.{arith}
 use mathlib.Core.Path.{refl}
-use Rattle.lettering.proofs.PutLaws.{first-room, Begun, begun-inside, begun-left, begun-total, begun-whole}
+use Rattle.lettering.proofs.PutLaws.{first-room, FirstPut, tail-inside, tail-room, total-fits, both-put}
 use Rattle.sheet.specs.Text.{rowsHead}
 use Rattle.writer.specs.Parts.{labelSection, restText}
 use Rattle.writer.proofs.put_sheet.Statement.{statement}
@@ -11,11 +11,11 @@ use Rattle.writer.proofs.put_sheet.Tie as tie
 abbrev start : tie.After-put-label-section → tie.Start
 start c = c .before .before .before .before .before .before
 
-begun : (c : tie.After-put-label-section)
-    → Begun (labelSection rowsHead (start c .args .n) (start c .args .rows .now))
+first-put : (c : tie.After-put-label-section)
+    → FirstPut (labelSection rowsHead (start c .args .n) (start c .args .rows .now))
     (restText (start c .args .n) (start c .args .table .now) (start c .args .cols .now)) (start c .args .out .now)
     (c .put-label-section .last .1 .1 .1 .0) (c .put-label-section .result)
-begun c = record { put = c .put-label-section .ensures; fits = start c .pre .3 }
+first-put c = record { put = c .put-label-section .ensures; fits = start c .pre .3 }
 
 slice-aggregate-put-label-section : tie.Need-slice-aggregate-put-label-section
 slice-aggregate-put-label-section c = search needs
@@ -27,26 +27,26 @@ put-label-section-requires c κs =
     (s .pre .1, first-room (labelSection rowsHead (s .args .n) (s .args .rows .now)) rest (s .args .out .now) (s .pre .3))
 
 sub-put-rest : tie.Need-sub-put-rest
-sub-put-rest c = omega (arith, begun-inside (begun (c .before .before)))
+sub-put-rest c = omega (arith, tail-inside (first-put (c .before .before)))
 
 part-put-rest-start : tie.Need-part-put-rest-start
-part-put-rest-start c = omega (arith, begun-inside (begun (c .before .before)))
+part-put-rest-start c = omega (arith, tail-inside (first-put (c .before .before)))
 
 part-put-rest-end : tie.Need-part-put-rest-end
-part-put-rest-end c = omega (arith, begun-inside (begun (c .before .before)))
+part-put-rest-end c = omega (arith, tail-inside (first-put (c .before .before)))
 
 put-rest-requires : tie.Need-put-rest-requires
 put-rest-requires c κs =
-    let b = c .before .before .before in (start b .pre .0, start b .pre .2, begun-left (begun b) _ refl)
+    let b = c .before .before .before in (start b .pre .0, start b .pre .2, tail-room (first-put b) _ refl)
 
 add-result : tie.Need-add-result
-add-result c = begun-total (begun (c .before .before .before .before .before .before)) (c .before .before .put-rest .ensures) (search needs)
+add-result c = total-fits (first-put (c .before .before .before .before .before .before)) (c .before .before .put-rest .ensures) (search needs)
 
 same-length : tie.Need-same-length
 same-length c = search needs
 
 returns : tie.Need-returns
-returns c = begun-whole (begun (c .before .before .before .before .before .before)) _ refl (c .before .before .put-rest .ensures)
+returns c = both-put (first-put (c .before .before .before .before .before .before)) _ refl (c .before .before .put-rest .ensures)
 
 pub put-sheet-spec : {M : Type 1} → statement M
 put-sheet-spec =

@@ -14,7 +14,7 @@ use Rattle.theory.proofs.Signed.{signed as signs}
 use Rattle.orders.specs.Refusals.{Said, gives, refuses}
 use Rattle.canon.proofs.Theorems.{found-within}
 use Rattle.sheet.specs.Text.{feed, ascii, text, digits, signed, ended}
-use Rattle.sheet.specs.Sheet.{labelLines, labelSection, Stands}
+use Rattle.sheet.specs.Sheet.{endedLines, countedLines, Stands}
 use Rattle.sheet.specs.Reading.{State, Outcome, wrong, Reads, done, short, unfit, next, TooLong}
 use Rattle.sheet.proofs.Matching.{read-is-written}
 use Rattle.lettering.proofs.TextLaws.{text-within}
@@ -23,13 +23,13 @@ use Rattle.printing.specs.Promise.{FiguresOf, no-transversal, solved, Sh
 
 -- ---- lines and sections of short texts
 lines-within : {A : Type 0} (f : A → List ℕ) (most : ℕ) (d : A) (l : List A) → ((k : ℕ) → k < length l → length (f (getD l k d)) ≤ most)
-    → length (labelLines (map f l)) ≤ (most + 1) * length l
-unfolding labelLines
+    → length (endedLines (map f l)) ≤ (most + 1) * length l
+unfolding endedLines
 lines-within f most d [] each = omega arith
 lines-within f most d (x ∷ l) each =
     omega (
       arith,
-      length-append (ended (f x)) (labelLines (map f l)),
+      length-append (ended (f x)) (endedLines (map f l)),
       length-append (f x) (feed ∷ []),
       each 0 (omega arith),
       lines-within f most d l (λ k h. each (suc k) (omega arith)),
@@ -37,12 +37,12 @@ lines-within f most d (x ∷ l) each =
 
 section-within : {A : Type 0} (head : List ℕ) (f : A → List ℕ) (most : ℕ) (d : A) (l : List A) → length l ≤ rows
     → ((k : ℕ) → k < length l → length (f (getD l k d)) ≤ most)
-    → length (labelSection head (map f l)) ≤ length head + 3 + (most + 1) * length l
+    → length (countedLines head (map f l)) ≤ length head + 3 + (most + 1) * length l
 section-within head f most d l few each =
     let heading = head ++ text (length (map f l)) in
     omega (
       arith,
-      length-append (ended heading) (labelLines (map f l)),
+      length-append (ended heading) (endedLines (map f l)),
       length-append heading (feed ∷ []),
       length-append head (text (length (map f l))),
       text-within 1 (length (map f l)) (omega (arith, length-map l f)),
@@ -93,11 +93,11 @@ figures-within : (n : ℕ) (t : List ℤ) (f : Figures) → n ≤ rows → lengt
 figures-within n t f few square entries p =
     let w = found-within t (f .adds) (f .stars) (f .heads) few square entries (p .solution) in
     let x = p .is-index in
-    let adds = labelSection addsHead (map text (f .adds)) in
-    let stars = labelSection starsHead (map text (f .stars)) in
-    let heads = labelSection headsHead (map signed (f .heads)) in
-    let sum = labelSection sumHead (map signed (f .sum ∷ [])) in
-    let index = labelSection indexHead (map text (f .index ∷ [])) in
+    let adds = countedLines addsHead (map text (f .adds)) in
+    let stars = countedLines starsHead (map text (f .stars)) in
+    let heads = countedLines headsHead (map signed (f .heads)) in
+    let sum = countedLines sumHead (map signed (f .sum ∷ [])) in
+    let index = countedLines indexHead (map text (f .index ∷ [])) in
     omega (
       arith,
       length-append adds (stars ++ (heads ++ (sum ++ index))),

@@ -12,7 +12,7 @@ use denote.Enum.Declared.{tagOf}
 use mir.Syntax.{w32, w64}
 use mir.Val.{SFits, Fits}
 use Rattle.sheet.specs.Text.{digits, text, signed, ended}
-use Rattle.sheet.specs.Sheet.{labelLines, labelSection}
+use Rattle.sheet.specs.Sheet.{endedLines, countedLines}
 use Rattle.lettering.specs.Putting.{Puts}
 use Rattle.lettering.proofs.PutLaws.{puts-none, puts-same, puts-length, puts-tail}
 use Rattle.lettering.proofs.TextLaws.{text-within}
@@ -38,17 +38,17 @@ signed-short (negsuc n) f =
 
 -- one value's line more
 lines-suc : {A : Type 0} (f : A → List ℕ) (l : List A) (k : ℕ) (d : A) → k < length l
-    → labelLines (map f (take (suc k) l)) ≡ labelLines (map f (take k l)) ++ ended (f (getD l k d))
-unfolding labelLines
+    → endedLines (map f (take (suc k) l)) ≡ endedLines (map f (take k l)) ++ ended (f (getD l k d))
+unfolding endedLines
 lines-suc f [] k d h = absurd (omega arith)
 lines-suc f (x ∷ l) zero d h = append-nil (ended (f x))
 lines-suc f (x ∷ l) (suc k) d h =
     ap (λ y. ended (f x) ++ y) (lines-suc f l k d (omega arith))
-    ∙ sym (append-assoc (ended (f x)) (labelLines (map f (take k l))) (ended (f (getD l k d))))
+    ∙ sym (append-assoc (ended (f x)) (endedLines (map f (take k l))) (ended (f (getD l k d))))
 
 pub lines-next : {A : Type 0} (f : A → List ℕ) (l : List A) (k : ℕ) (d : A) → k < length l
-    → labelLines (map f (take (k + 1) l)) ≡ labelLines (map f (take k l)) ++ ended (f (getD l k d))
-lines-next f l k d h = ap (λ i. labelLines (map f (take i l))) (add-one k) ∙ lines-suc f l k d h
+    → endedLines (map f (take (k + 1) l)) ≡ endedLines (map f (take k l)) ++ ended (f (getD l k d))
+lines-next f l k d h = ap (λ i. endedLines (map f (take i l))) (add-one k) ∙ lines-suc f l k d h
 
 -- what is left of a room from `at` on
 pub room-left : (o : List ℕ) (at k m : ℕ) → k ≡ length o - at → at + m ≤ length o → m ≤ length (take k (drop at o))
@@ -71,17 +71,17 @@ short-same a b o o′ n p q e f x =
 
 -- the lines of the first k values are put
 abbrev pub Lined : {A : Type 0} → (A → List ℕ) → List A → List ℕ → List ℕ → ℕ → ℕ → Type 0
-Lined f l o o′ at k = (k ≤ length l) × (12 * length l ≤ length o) × (length o′ ≡ length o) × PutsShort (12 * k) (labelLines (map f (take k l))) o o′ at
+Lined f l o o′ at k = (k ≤ length l) × (12 * length l ≤ length o) × (length o′ ≡ length o) × PutsShort (12 * k) (endedLines (map f (take k l))) o o′ at
 
 pub lined-none : {A : Type 0} (f : A → List ℕ) (l : List A) (o : List ℕ) → 12 * length l ≤ length o → Lined f l o o 0 0
-unfolding labelLines
+unfolding endedLines
 lined-none f l o h = (omega arith, h, refl, record { puts = puts-none o; short = omega arith })
 
 pub lined-next : {A : Type 0} (f : A → List ℕ) (l : List A) (d : A) (o o′ ys : List ℕ) (at k m size : ℕ) → Lined f l o o′ at k → k < length l → size ≡ length o′ - at
     → PutsShort 12 (ended (f (getD l k d))) (take size (drop at o′)) ys m → Lined f l o (take at o′ ++ (ys ++ drop size (drop at o′))) (at + m) (k + 1)
 lined-next f l d o o′ ys at k m size v h g y =
-    let x = short-tail (labelLines (map f (take k l))) (ended (f (getD l k d))) o o′ ys at m size (12 * k) 12 (v .3) g y (omega (arith, v .1)) in
-    let z = short-same _ (labelLines (map f (take (k + 1) l))) o _ (at + m) (12 * k + 12) (12 * (k + 1)) (sym (lines-next f l k d h)) (omega arith) x in
+    let x = short-tail (endedLines (map f (take k l))) (ended (f (getD l k d))) o o′ ys at m size (12 * k) 12 (v .3) g y (omega (arith, v .1)) in
+    let z = short-same _ (endedLines (map f (take (k + 1) l))) o _ (at + m) (12 * k + 12) (12 * (k + 1)) (sym (lines-next f l k d h)) (omega arith) x in
     (omega arith, v .1, puts-length _ o _ (at + m) (z .puts) (omega (arith, z .puts .is-length, z .short, v .1)), z)
 
 -- a section's heading: a name of at most 8 bytes and a count of at most 32
@@ -106,15 +106,15 @@ values-room o o′ a n k h g r e = room-left o′ a k (12 * n) e (omega (arith, 
 
 -- a section: its heading, and its values in the tail that the heading left
 pub section-put : {A : Type 0} (f : A → List ℕ) (l : List A) (name o o′ ys : List ℕ) (a b size : ℕ) → length name ≤ 8 → length l ≤ 32 → part ≤ length o
-    → Puts (ended (name ++ text (length l))) o o′ a → size ≡ length o′ - a → PutsShort (12 * length l) (labelLines (map f l)) (take size (drop a o′)) ys b
-    → PutsShort part (labelSection name (map f l)) o (take a o′ ++ (ys ++ drop size (drop a o′))) (a + b)
+    → Puts (ended (name ++ text (length l))) o o′ a → size ≡ length o′ - a → PutsShort (12 * length l) (endedLines (map f l)) (take size (drop a o′)) ys b
+    → PutsShort part (countedLines name (map f l)) o (take a o′ ++ (ys ++ drop size (drop a o′))) (a + b)
 section-put f l name o o′ ys a b size h g r p e q =
     let t = headed name o o′ (length l) a h g r p in
-    let x = short-tail (ended (name ++ text (length l))) (labelLines (map f l)) o o′ ys a b size 11 (12 * length l) (record { puts = p; short = t .inside }) e q (omega arith) in
+    let x = short-tail (ended (name ++ text (length l))) (endedLines (map f l)) o o′ ys a b size 11 (12 * length l) (record { puts = p; short = t .inside }) e q (omega arith) in
     record {
       puts =
-          puts-same _ (labelSection name (map f l)) o _ (a + b)
-          (ap (λ n. ended (name ++ text n) ++ labelLines (map f l)) (sym (length-map l f))) (x .puts);
+          puts-same _ (countedLines name (map f l)) o _ (a + b)
+          (ap (λ n. ended (name ++ text n) ++ endedLines (map f l)) (sym (length-map l f))) (x .puts);
       short = omega (arith, x .short);
     }
 
@@ -145,15 +145,15 @@ regroup : (a b c d e : List ℕ) → ((((([] ++ a) ++ b) ++ c) ++ d) ++ e) ≡ a
 regroup a b c d e = simp append-assoc
 
 -- the five sections one after the other are the printed figures
-pub figures-put : (f : Figures) (o o₁ o₂ o₃ o₄ o₅ : List ℕ) (a b c d e : ℕ) → Follows (labelSection addsHead (map text (f .adds))) 0 o o₁ a
-    → Follows (labelSection starsHead (map text (f .stars))) a o₁ o₂ b → Follows (labelSection headsHead (map signed (f .heads))) b o₂ o₃ c
-    → Follows (labelSection sumHead (signed (f .sum) ∷ [])) c o₃ o₄ d → Follows (labelSection indexHead (text (f .index) ∷ [])) d o₄ o₅ e
+pub figures-put : (f : Figures) (o o₁ o₂ o₃ o₄ o₅ : List ℕ) (a b c d e : ℕ) → Follows (countedLines addsHead (map text (f .adds))) 0 o o₁ a
+    → Follows (countedLines starsHead (map text (f .stars))) a o₁ o₂ b → Follows (countedLines headsHead (map signed (f .heads))) b o₂ o₃ c
+    → Follows (countedLines sumHead (signed (f .sum) ∷ [])) c o₃ o₄ d → Follows (countedLines indexHead (text (f .index) ∷ [])) d o₄ o₅ e
     → PutsShort whole (printed (gives f)) o o₅ e
 figures-put f o o₁ o₂ o₃ o₄ o₅ a b c d e p q r s t =
     record {
       puts =
           puts-same _ (printed (gives f)) o o₅ e
-          (regroup (labelSection addsHead (map text (f .adds))) (labelSection starsHead (map text (f .stars))) (labelSection headsHead (map signed (f .heads))) (labelSection sumHead (signed (f .sum) ∷ [])) (labelSection indexHead (text (f .index) ∷ [])))
+          (regroup (countedLines addsHead (map text (f .adds))) (countedLines starsHead (map text (f .stars))) (countedLines headsHead (map signed (f .heads))) (countedLines sumHead (signed (f .sum) ∷ [])) (countedLines indexHead (text (f .index) ∷ [])))
           (t .after _ o (s .after _ o (r .after _ o (q .after _ o (p .after [] o (puts-none o))))));
       short = omega (arith, p .short, q .short, r .short, s .short, t .short);
     }

@@ -17,7 +17,7 @@ use Rattle.theory.proofs.Search.{all, all-told, both, every, every-told}
 use Rattle.orders.specs.Refusals.{Said, gives, refuses}
 use Rattle.sheet.specs.Text.{ascii, over, text, digits}
 use Rattle.sheet.specs.Labels.{small, width, Form, Labels}
-use Rattle.sheet.specs.Sheet.{Labelled, Stands, sheetOf, labelLines, orderLines, presentCount}
+use Rattle.sheet.specs.Sheet.{Labelled, Stands, sheetOf, endedLines, orderLines, presentCount}
 use Rattle.sheet.proofs.Matching.{written-is-read}
 use Rattle.printing.specs.Printed.{Figures, printed}
 use Rattle.printing.specs.Shown.{pendulum-sheet, pendulum-answer}
@@ -38,11 +38,11 @@ figures = record { adds = 0 ∷ 0 ∷ 2 ∷ []; stars = 1 ∷ 3 ∷ 2 ∷ []; he
 
 -- both are computed: the one sheet of the labelled table, and the printed figures
 sheet-is : sheetOf drawn ≡ pendulum-sheet
-unfolding labelLines orderLines presentCount text digits
+unfolding endedLines orderLines presentCount text digits
 sheet-is = refl
 
 answer-is : printed (gives figures) ≡ pendulum-answer
-unfolding labelLines text digits
+unfolding endedLines text digits
 answer-is = refl
 
 -- "`refused 6`, or `refused 10 7` for line 7"

@@ -3,7 +3,7 @@ use mathlib.Core.List.{List, [], _∷_, _++_, map}
 use Prim.Native.Nat.{ℕ}
 use lib.IntN.{ℤ}
 use Rattle.sheet.specs.Text.{blank, ascii, text, signed, ended}
-use Rattle.sheet.specs.Sheet.{labelSection}
+use Rattle.sheet.specs.Sheet.{countedLines}
 use Rattle.orders.specs.Refusals.{Said, gives, refuses}
 
 -- what the answer of a table says
@@ -43,10 +43,10 @@ values (v ∷ vs) = blank ∷ (text v ++ values vs)
 -- 7` for line 7."
 abbrev pub printed : Said Figures → List ℕ
 printed (gives f) =
-    labelSection addsHead (map text (f .adds))
-    ++ (labelSection starsHead (map text (f .stars))
-    ++ (labelSection headsHead (map signed (f .heads))
-    ++ (labelSection sumHead (signed (f .sum) ∷ []) ++ labelSection indexHead (text (f .index) ∷ []))))
+    countedLines addsHead (map text (f .adds))
+    ++ (countedLines starsHead (map text (f .stars))
+    ++ (countedLines headsHead (map signed (f .heads))
+    ++ (countedLines sumHead (signed (f .sum) ∷ []) ++ countedLines indexHead (text (f .index) ∷ []))))
 printed (refuses k vs) = ended (refusedHead ++ (text k ++ values vs))
 
 -- a room in which every answer fits (`answers-fit`)

@@ -4,7 +4,7 @@ ghost use lib.ListN.{length};
 ghost use Rattle.theory.specs.Limits.{rows};
 ghost use Rattle.orders.specs.Refusals.{gives, refusal};
 ghost use Rattle.sheet.specs.Text.{text, signed, ended};
-ghost use Rattle.sheet.specs.Sheet.{labelLines, labelSection};
+ghost use Rattle.sheet.specs.Sheet.{endedLines, countedLines};
 ghost use Rattle.printing.specs.Printed.{printed};
 ghost use Rattle.printing.specs.Parts.{PutsShort, part, whole, Follows, Largest, Tabled, Prints};
 ghost use Rattle.printing.specs.Promise.{says, TableSays, SheetSays, PrintPromise, InputPromise};
@@ -58,7 +58,7 @@ fn put_signed_line(v: i32, out: &mut [u8]) -> usize
 // Numbers, one a line. Rules out a number left out, or two on a line.
 fn put_number_lines(values: &[u32], out: &mut [u8]) -> usize
     requires { ⌜ 12 * length (now values) ≤ length (now out) ⌝ }
-    ensures { λ r. ⌜ PutsShort (12 * length (now (values .entry))) (labelLines (map text (now (values .entry)))) (now (out .entry)) (now (out .exit)) r ⌝ }
+    ensures { λ r. ⌜ PutsShort (12 * length (now (values .entry))) (endedLines (map text (now (values .entry)))) (now (out .entry)) (now (out .exit)) r ⌝ }
 {
     let mut at: usize = 0;
     let mut k = 0;
@@ -72,7 +72,7 @@ fn put_number_lines(values: &[u32], out: &mut [u8]) -> usize
 // Signed numbers, one a line. Rules out the same.
 fn put_signed_lines(values: &[i32], out: &mut [u8]) -> usize
     requires { ⌜ 12 * length (now values) ≤ length (now out) ⌝ }
-    ensures { λ r. ⌜ PutsShort (12 * length (now (values .entry))) (labelLines (map signed (now (values .entry)))) (now (out .entry)) (now (out .exit)) r ⌝ }
+    ensures { λ r. ⌜ PutsShort (12 * length (now (values .entry))) (endedLines (map signed (now (values .entry)))) (now (out .entry)) (now (out .exit)) r ⌝ }
 {
     let mut at: usize = 0;
     let mut k = 0;
@@ -86,7 +86,7 @@ fn put_signed_lines(values: &[i32], out: &mut [u8]) -> usize
 // A section of numbers in the room. Rules out another count than that of the lines.
 fn put_number_section(name: &[u8], values: &[u32], out: &mut [u8]) -> usize
     requires { ⌜ (length (now name) ≤ 8) × (length (now values) ≤ rows) × (part ≤ length (now out)) ⌝ }
-    ensures { λ r. ⌜ PutsShort part (labelSection (now (name .entry)) (map text (now (values .entry)))) (now (out .entry)) (now (out .exit)) r ⌝ }
+    ensures { λ r. ⌜ PutsShort part (countedLines (now (name .entry)) (map text (now (values .entry)))) (now (out .entry)) (now (out .exit)) r ⌝ }
 {
     let a = put_heading(name, values.len(), out);
     let b = put_number_lines(values, &mut out[a..]);
@@ -96,7 +96,7 @@ fn put_number_section(name: &[u8], values: &[u32], out: &mut [u8]) -> usize
 // A section of signed numbers in the room. Rules out the same.
 fn put_signed_section(name: &[u8], values: &[i32], out: &mut [u8]) -> usize
     requires { ⌜ (length (now name) ≤ 8) × (length (now values) ≤ rows) × (part ≤ length (now out)) ⌝ }
-    ensures { λ r. ⌜ PutsShort part (labelSection (now (name .entry)) (map signed (now (values .entry)))) (now (out .entry)) (now (out .exit)) r ⌝ }
+    ensures { λ r. ⌜ PutsShort part (countedLines (now (name .entry)) (map signed (now (values .entry)))) (now (out .entry)) (now (out .exit)) r ⌝ }
 {
     let a = put_heading(name, values.len(), out);
     let b = put_signed_lines(values, &mut out[a..]);
@@ -106,7 +106,7 @@ fn put_signed_section(name: &[u8], values: &[i32], out: &mut [u8]) -> usize
 // A section of numbers after the first bytes of a page; where it ends. Rules out a byte of the sections before it changed.
 fn add_numbers(name: &[u8], values: &[u32], at: usize, page: &mut [u8]) -> usize
     requires { ⌜ (length (now name) ≤ 8) × (length (now values) ≤ rows) × (at + part ≤ length (now page)) ⌝ }
-    ensures { λ r. ⌜ Follows (labelSection (now (name .entry)) (map text (now (values .entry)))) at (now (page .entry)) (now (page .exit)) r ⌝ }
+    ensures { λ r. ⌜ Follows (countedLines (now (name .entry)) (map text (now (values .entry)))) at (now (page .entry)) (now (page .exit)) r ⌝ }
 {
     let k = put_number_section(name, values, &mut page[at..]);
     at + k
@@ -115,7 +115,7 @@ fn add_numbers(name: &[u8], values: &[u32], at: usize, page: &mut [u8]) -> usize
 // A section of signed numbers after the first bytes of a page; where it ends. Rules out the same.
 fn add_signed(name: &[u8], values: &[i32], at: usize, page: &mut [u8]) -> usize
     requires { ⌜ (length (now name) ≤ 8) × (length (now values) ≤ rows) × (at + part ≤ length (now page)) ⌝ }
-    ensures { λ r. ⌜ Follows (labelSection (now (name .entry)) (map signed (now (values .entry)))) at (now (page .entry)) (now (page .exit)) r ⌝ }
+    ensures { λ r. ⌜ Follows (countedLines (now (name .entry)) (map signed (now (values .entry)))) at (now (page .entry)) (now (page .exit)) r ⌝ }
 {
     let k = put_signed_section(name, values, &mut page[at..]);
     at + k

@@ -5,7 +5,7 @@ use Prim.Native.Nat.{ℕ, _+_}
 use native.Mathlib.Omega.{arith}
 use lib.ListN.{length}
 use Rattle.sheet.specs.Text.{feed, ended}
-use Rattle.sheet.specs.Sheet.{labelLines}
+use Rattle.sheet.specs.Sheet.{endedLines}
 use Rattle.sheet.specs.Reading.{Ended, State, start, tableOf, wrong, Reads, short, unfit, WrongLine}
 use Rattle.sheet.specs.FirstWrong.{CanStand, FirstWrong}
 use Rattle.sheet.proofs.Lines.{Cut, unbroken, broken, cut}
@@ -57,7 +57,7 @@ first-is-wrong s k f =
         short u
         (λ z n.
         let w = ends-written (run-stage [] at-start r) n in
-        let e : s ≡ labelLines (f .before) = f .parts ∙ ap (λ x. labelLines (f .before) ++ x) z ∙ append-nil (labelLines (f .before)) in
+        let e : s ≡ endedLines (f .before) = f .parts ∙ ap (λ x. endedLines (f .before) ++ x) z ∙ append-nil (endedLines (f .before)) in
         f .no-sheet (tableOf st) (record { stands = w .stands; is = e ∙ w .is }))
         (ap wrong e)
 

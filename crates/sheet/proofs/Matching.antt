@@ -11,7 +11,7 @@ use Rattle.theory.specs.Limits.{rows, order}
 use Rattle.theory.specs.Table.{absent, Order, Entries}
 use Rattle.sheet.specs.Text.{text, rowsHead, colsHead, ordersHead}
 use Rattle.sheet.specs.Labels.{Labels}
-use Rattle.sheet.specs.Sheet.{Labelled, Stands, labelLines, isAbsent, presentCount, orderText, orderLines, headed, sheetLines, sheetOf, IsSheet}
+use Rattle.sheet.specs.Sheet.{Labelled, Stands, endedLines, isAbsent, presentCount, orderText, orderLines, headed, sheetLines, sheetOf, IsSheet}
 use Rattle.sheet.specs.Reading.{of-rows, of-cols, of-orders, State, start, After, heading, row-label, col-label, order-line, Final}
 use Rattle.sheet.specs.Reading.{Outcome, good, tableOf, Reads, done}
 use Rattle.sheet.proofs.Slots.{labels-none, labels-more, labels-new, labels-form, length-more}
@@ -187,11 +187,11 @@ rendered (in-orders m rs cs e w k x y q) s =
     }
 
 -- at an end all bytes are a sheet
-pub ends-written : {st : State} {ls : List (List ℕ)} → Stage st ls → Final st → IsSheet (tableOf st) (labelLines ls)
+pub ends-written : {st : State} {ls : List (List ℕ)} → Stage st ls → Final st → IsSheet (tableOf st) (endedLines ls)
 ends-written {st} q f =
     let r = rendered q (f .last) in
     let e : presentCount (tableOf st .entries) + st .left ≡ presentCount (tableOf st .entries) = omega (arith, f .none-left) in
-    record { is = ap labelLines (r .is ∙ ap (λ k. sheetLines k (tableOf st)) e); stands = r .stands }
+    record { is = ap endedLines (r .is ∙ ap (λ k. sheetLines k (tableOf st)) e); stands = r .stands }
 
 -- a sheet that is read is what the writer writes for its table, byte for byte
 pub read-is-written : (s : List ℕ) (t : Labelled) → Reads start 1 s (good t) → IsSheet t s
@@ -204,7 +204,7 @@ read-is-written s t r = go (course r .stop)
     go (at-end z f e) =
         let h : tableOf (c .end) ≡ t = cc in
         subst (λ x. IsSheet x s) h
-        (subst⁻¹ (λ x. IsSheet (tableOf (c .end)) x) (c .parts ∙ ap (λ x. labelLines (c .lines) ++ x) z ∙ append-nil (labelLines (c .lines)))
+        (subst⁻¹ (λ x. IsSheet (tableOf (c .end)) x) (c .parts ∙ ap (λ x. endedLines (c .lines) ++ x) z ∙ append-nil (endedLines (c .lines)))
         (ends-written (run-stage [] at-start (c .run)) f))
     go (at-fault n e) = absurd (let z : _≡_ {A = ℕ} 0 1 = cc in omega arith)
 

@@ -15,38 +15,38 @@ use Rattle.theory.specs.Table.{absent, Present, Order, Entries}
 use Rattle.theory.proofs.Signed.{signed}
 pub use Rattle.orders.proofs.Places.{cell}
 use Rattle.sheet.specs.Text.{text, ended, rowsHead, colsHead, ordersHead}
-use Rattle.sheet.specs.Sheet.{Labelled, isAbsent, presentCount, orderText, labelLines, orderLines, headed, labelSection, sheetOf}
+use Rattle.sheet.specs.Sheet.{Labelled, isAbsent, presentCount, orderText, endedLines, orderLines, headed, countedLines, sheetOf}
 use Rattle.sheet.proofs.Bytes.{clash}
 
 -- label lines of two lists one after the other
-pub label-lines-append : (a b : List (List ℕ)) → labelLines (a ++ b) ≡ labelLines a ++ labelLines b
-unfolding labelLines
-label-lines-append [] b = refl
-label-lines-append (l ∷ a) b =
-    ap (λ x. ended l ++ x) (label-lines-append a b) ∙ sym (append-assoc (ended l) (labelLines a) (labelLines b))
+pub ended-append : (a b : List (List ℕ)) → endedLines (a ++ b) ≡ endedLines a ++ endedLines b
+unfolding endedLines
+ended-append [] b = refl
+ended-append (l ∷ a) b =
+    ap (λ x. ended l ++ x) (ended-append a b) ∙ sym (append-assoc (ended l) (endedLines a) (endedLines b))
 
-pub label-lines-one : (l : List ℕ) → labelLines (l ∷ []) ≡ ended l
-unfolding labelLines
-label-lines-one l = append-nil (ended l)
+pub ended-one : (l : List ℕ) → endedLines (l ∷ []) ≡ ended l
+unfolding endedLines
+ended-one l = append-nil (ended l)
 
 -- a sheet's bytes, section by section
-headed-bytes : (h : List ℕ) (c : ℕ) (ls ks : List (List ℕ)) → labelLines (headed h c ls ++ ks) ≡ (ended (h ++ text c) ++ labelLines ls) ++ labelLines ks
-unfolding labelLines
+headed-bytes : (h : List ℕ) (c : ℕ) (ls ks : List (List ℕ)) → endedLines (headed h c ls ++ ks) ≡ (ended (h ++ text c) ++ endedLines ls) ++ endedLines ks
+unfolding endedLines
 headed-bytes h c ls ks =
-    ap (λ x. ended (h ++ text c) ++ x) (label-lines-append ls ks) ∙ sym (append-assoc (ended (h ++ text c)) (labelLines ls) (labelLines ks))
+    ap (λ x. ended (h ++ text c) ++ x) (ended-append ls ks) ∙ sym (append-assoc (ended (h ++ text c)) (endedLines ls) (endedLines ks))
 
 pub sheet-bytes : (t : Labelled)
     → sheetOf t
-    ≡ labelSection rowsHead (t .row-labels)
-    ++ (labelSection colsHead (t .col-labels)
-    ++ (ended (ordersHead ++ text (presentCount (t .entries))) ++ labelLines (orderLines (length (t .row-labels)) 0 (t .entries))))
-unfolding labelLines
+    ≡ countedLines rowsHead (t .row-labels)
+    ++ (countedLines colsHead (t .col-labels)
+    ++ (ended (ordersHead ++ text (presentCount (t .entries))) ++ endedLines (orderLines (length (t .row-labels)) 0 (t .entries))))
+unfolding endedLines
 sheet-bytes t =
     let n = length (t .row-labels) in
     let k = length (t .col-labels) in
     let os = headed ordersHead (presentCount (t .entries)) (orderLines n 0 (t .entries)) in
     headed-bytes rowsHead n (t .row-labels) (headed colsHead k (t .col-labels) ++ os)
-    ∙ ap (λ x. labelSection rowsHead (t .row-labels) ++ x) (headed-bytes colsHead k (t .col-labels) os)
+    ∙ ap (λ x. countedLines rowsHead (t .row-labels) ++ x) (headed-bytes colsHead k (t .col-labels) os)
 
 -- the test of an absent entry
 pub absent-is : (v : ℤ) → isAbsent v ≡ true → v ≡ absent

@@ -5,7 +5,7 @@ use Prim.Native.Nat.{ℕ, suc, _+_}
 use native.Mathlib.Omega.{arith}
 use lib.ListN.{length}
 use Rattle.sheet.specs.Text.{feed, ended}
-use Rattle.sheet.specs.Sheet.{labelLines}
+use Rattle.sheet.specs.Sheet.{endedLines}
 use Rattle.sheet.specs.Reading.{Ended, Section, opening, of-rows, of-cols, of-orders, State, Heading, After, heading, row-label}
 use Rattle.sheet.specs.Reading.{col-label, order-line, Final, tableOf, Outcome, good, wrong, Reads, done, short, unfit, next}
 use Rattle.sheet.proofs.Lines.{Unbroken, ended-once, unbroken-unended, none-unended, rows-unbroken, cols-unbroken, orders-unbroken}
@@ -59,13 +59,13 @@ first l x u = record { parts = append-assoc l (feed ∷ []) x; whole = u }
 
 -- lines that stand are read one after the other
 pub run-reads : {a b : State} {ls : List (List ℕ)} (k : ℕ) (x : List ℕ) (o : Outcome) → Run a ls b → Reads b (k + length ls) x o
-    → Reads a k (labelLines ls ++ x) o
-unfolding labelLines
+    → Reads a k (endedLines ls ++ x) o
+unfolding endedLines
 run-reads {a} k x o none r = let e : k + 0 ≡ k = omega arith in subst (λ i. Reads a i x o) e r
 run-reads {a} {b} k x o (then {st′ = c} {ls = ls} l y p) r =
     let e : k + suc (length ls) ≡ suc k + length ls = omega arith in
-    subst⁻¹ (λ z. Reads a k z o) (append-assoc (ended l) (labelLines ls) x)
-    (next l (labelLines ls ++ x) c (first l (labelLines ls ++ x) (after-unbroken y)) y
+    subst⁻¹ (λ z. Reads a k z o) (append-assoc (ended l) (endedLines ls) x)
+    (next l (endedLines ls ++ x) c (first l (endedLines ls ++ x) (after-unbroken y)) y
     (run-reads (suc k) x o p (subst (λ i. Reads b i x o) e r)))
 
 -- where a reading stops, with k the number of the next line: where the sheet may end, or where no line that stands comes next
@@ -78,19 +78,19 @@ pub record Course (a : State) (k : ℕ) (s : List ℕ) (o : Outcome) : Type 0 wh
   pub rest : List ℕ
   pub end : State
   pub run : Run a lines end
-  pub parts : s ≡ labelLines lines ++ rest
+  pub parts : s ≡ endedLines lines ++ rest
   pub stop : Halt end (k + length lines) rest o
 
 -- a reading that stops at once
 stopped : {a : State} {k : ℕ} {s : List ℕ} {o : Outcome} → Halt a k s o → Course a k s o
-unfolding labelLines
+unfolding endedLines
 stopped {a} {k} {s} {o} h =
     let e : k ≡ k + 0 = omega arith in
     record { lines = []; rest = s; end = a; run = none; parts = refl; stop = subst (λ i. Halt a i s o) e h }
 
 -- every reading has such a course
 pub course : {a : State} {k : ℕ} {s : List ℕ} {o : Outcome} → Reads a k s o → Course a k s o
-unfolding labelLines
+unfolding endedLines
 course (done z f e) = stopped (at-end z f e)
 course {s = s} (short u n e) = stopped (at-fault (λ l x st′ d a. unbroken-unended s l x u d) e)
 course {a} {s = s} (unfit l x d n e) =
@@ -106,6 +106,6 @@ course {k = k} {s} {o} (next l x st′ d y r) =
       parts =
           d .parts
           ∙ sym (append-assoc l (feed ∷ []) x)
-          ∙ ap (λ z. ended l ++ z) (c .parts) ∙ sym (append-assoc (ended l) (labelLines (c .lines)) (c .rest));
+          ∙ ap (λ z. ended l ++ z) (c .parts) ∙ sym (append-assoc (ended l) (endedLines (c .lines)) (c .rest));
       stop = subst (λ i. Halt (c .end) i (c .rest) o) e (c .stop);
     }

@@ -5,7 +5,7 @@ use mathlib.Core.List.{List, [], _∷_, _++_}
 use Prim.Native.Nat.{ℕ, _+_, _*_, _≤_}
 use lib.ListN.{length}
 use Rattle.sheet.specs.Text.{ended}
-use Rattle.sheet.specs.Sheet.{Labelled, Stands, presentCount, labelLines, sheetLines, IsSheet}
+use Rattle.sheet.specs.Sheet.{Labelled, Stands, presentCount, endedLines, sheetLines, IsSheet}
 
 -- Lines can stand: they begin the sheet of a table within the limits, where K may be written as any count from the number of its orders
 -- to N × N. "An order line isn't wrong because too few places remain after it to make up K: then the missing line is."
@@ -24,7 +24,7 @@ pub record CanStand (ls : List (List ℕ)) : Type 0 where
 pub record FirstWrong (s : List ℕ) (k : ℕ) : Type 0 where
   pub before : List (List ℕ)
   pub rest : List ℕ
-  pub parts : s ≡ labelLines before ++ rest
+  pub parts : s ≡ endedLines before ++ rest
   pub number : k ≡ length before + 1
   pub stand : CanStand before
   pub next-cannot : (l x : List ℕ) → rest ≡ ended l ++ x → CanStand (before ++ (l ∷ [])) → ⊥

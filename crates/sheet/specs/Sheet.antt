@@ -28,9 +28,9 @@ pub record Stands (t : Labelled) : Type 0 where
   pub entries-stand : Entries order (t .entries)
 
 -- "every line ended by one line feed": the bytes of lines
-unfoldable pub labelLines : List (List ℕ) → List ℕ
-labelLines [] = []
-labelLines (l ∷ ls) = ended l ++ labelLines ls
+unfoldable pub endedLines : List (List ℕ) → List ℕ
+endedLines [] = []
+endedLines (l ∷ ls) = ended l ++ endedLines ls
 
 -- are two entries the same?
 abbrev pub same : ℤ → ℤ → Bool
@@ -62,8 +62,8 @@ abbrev pub headed : List ℕ → ℕ → List (List ℕ) → List (List ℕ)
 headed head c ls = (head ++ text c) ∷ ls
 
 -- the bytes of a section whose count is that of its lines
-abbrev pub labelSection : List ℕ → List (List ℕ) → List ℕ
-labelSection head ls = ended (head ++ text (length ls)) ++ labelLines ls
+abbrev pub countedLines : List ℕ → List (List ℕ) → List ℕ
+countedLines head ls = ended (head ++ text (length ls)) ++ endedLines ls
 
 -- "Sections in a fixed order": "`rows N`, then N labels", "`cols N`, the same N, then N labels", "`orders K`, then K lines"; the lines of
 -- a table's sheet, with k written for K
@@ -74,7 +74,7 @@ sheetLines k t =
 
 -- "So one table with labels has one sheet."
 abbrev pub sheetOf : Labelled → List ℕ
-sheetOf t = labelLines (sheetLines (presentCount (t .entries)) t)
+sheetOf t = endedLines (sheetLines (presentCount (t .entries)) t)
 
 -- the bytes s are the sheet of the labelled table t, which is within the limits
 pub record IsSheet (t : Labelled) (s : List ℕ) : Type 0 where

@@ -11,7 +11,7 @@ use Rattle.theory.specs.Limits.{rows, order, sheet}
 use Rattle.theory.specs.Table.{Present, Order, Entries}
 use Rattle.theory.proofs.Signed.{signed as signs}
 use Rattle.sheet.specs.Text.{feed, digits, text, signed, ended, rowsHead, colsHead, ordersHead}
-use Rattle.sheet.specs.Sheet.{Labelled, Stands, labelLines, isAbsent, presentCount, orderLines, labelSection, sheetOf}
+use Rattle.sheet.specs.Sheet.{Labelled, Stands, endedLines, isAbsent, presentCount, orderLines, countedLines, sheetOf}
 use Rattle.sheet.proofs.Numbers.{text-mono}
 use Rattle.sheet.proofs.Orders.{sheet-bytes, count-le, absent-not, row-inside, col-inside, entries-right}
 use Rattle.sheet.proofs.Slots.{Short, short-tail, labels-short}
@@ -29,15 +29,15 @@ limits-fit : length rowsHead + length (text rows) + 1 + label-most * rows + (len
 unfolding text digits
 limits-fit = omega arith
 
-lines-short : (ls : List (List ℕ)) → Short ls → length (labelLines ls) ≤ label-most * length ls
-unfolding labelLines
+lines-short : (ls : List (List ℕ)) → Short ls → length (endedLines ls) ≤ label-most * length ls
+unfolding endedLines
 lines-short [] s = omega arith
 lines-short (l ∷ ls) s =
     omega (
       arith,
       lines-short ls (short-tail l ls s),
       s 0 (omega arith),
-      length-append (ended l) (labelLines ls),
+      length-append (ended l) (endedLines ls),
       length-append l (feed ∷ []),
     )
 
@@ -58,7 +58,7 @@ line-short n p v false e h g o =
     )
 
 orders-short : (n p : ℕ) (e : List ℤ) → n ≤ rows → p + length e ≤ n * n → Entries order e → length (orderBytes n p e) ≤ order-most * length e
-unfolding labelLines orderLines
+unfolding endedLines orderLines
 orders-short n p [] h g s = omega arith
 orders-short n p (v ∷ e) h g s =
     omega (
@@ -85,10 +85,10 @@ sheet-fits t w =
       arith,
       limits-fit,
       ap length (sheet-bytes t),
-      length-append (labelSection rowsHead (t .row-labels)) (labelSection colsHead (t .col-labels) ++ orderSection n e),
-      length-append (ended (rowsHead ++ text n)) (labelLines (t .row-labels)),
-      length-append (labelSection colsHead (t .col-labels)) (orderSection n e),
-      length-append (ended (colsHead ++ text m)) (labelLines (t .col-labels)),
+      length-append (countedLines rowsHead (t .row-labels)) (countedLines colsHead (t .col-labels) ++ orderSection n e),
+      length-append (ended (rowsHead ++ text n)) (endedLines (t .row-labels)),
+      length-append (countedLines colsHead (t .col-labels)) (orderSection n e),
+      length-append (ended (colsHead ++ text m)) (endedLines (t .col-labels)),
       length-append (ended (ordersHead ++ text (presentCount e))) (orderBytes n 0 e),
       heading-length rowsHead n,
       heading-length colsHead m,

@@ -13,9 +13,9 @@ use mir.Syntax.{w16, w64}
 use mir.Val.{SFits, Fits, ofZ}
 use Rattle.orders.proofs.Entries.{absent-bits}
 use Rattle.sheet.specs.Text.{feed, blank, text, signed, ended}
-use Rattle.sheet.specs.Sheet.{isAbsent, presentCount, orderText, labelLines, orderLines}
+use Rattle.sheet.specs.Sheet.{isAbsent, presentCount, orderText, endedLines, orderLines}
 use Rattle.sheet.proofs.Numbers.{text-within}
-use Rattle.sheet.proofs.Orders.{label-lines-append, lines-append, count-append, row-inside, col-inside}
+use Rattle.sheet.proofs.Orders.{ended-append, lines-append, count-append, row-inside, col-inside}
 use Rattle.writer.specs.Parts.{orderBytes, entryBytes, orderEnd, value-most}
 
 -- the length of a number of 16 bits, without its sign and with it
@@ -53,10 +53,10 @@ line-present n p v e = rw e
 
 -- the bytes of entries in two parts, and of one entry and others
 pub bytes-append : (n p : ℕ) (a b : List ℤ) → orderBytes n p (a ++ b) ≡ orderBytes n p a ++ orderBytes n (p + length a) b
-bytes-append n p a b = ap labelLines (lines-append n p a b) ∙ label-lines-append (orderLines n p a) (orderLines n (p + length a) b)
+bytes-append n p a b = ap endedLines (lines-append n p a b) ∙ ended-append (orderLines n p a) (orderLines n (p + length a) b)
 
-bytes-by : (t : Bool) (l : List ℕ) (ls : List (List ℕ)) → labelLines (cond t ls (l ∷ ls)) ≡ cond t [] (ended l) ++ labelLines ls
-unfolding labelLines
+bytes-by : (t : Bool) (l : List ℕ) (ls : List (List ℕ)) → endedLines (cond t ls (l ∷ ls)) ≡ cond t [] (ended l) ++ endedLines ls
+unfolding endedLines
 bytes-by true l ls = refl
 bytes-by false l ls = refl
 
@@ -65,7 +65,7 @@ unfolding orderLines
 bytes-cons n p v e = bytes-by (isAbsent v) (orderText (p / n) (p % n) v) (orderLines n (suc p) e)
 
 pub bytes-one : (n p : ℕ) (v : ℤ) → orderBytes n p (v ∷ []) ≡ entryBytes n p v
-unfolding labelLines orderLines
+unfolding endedLines orderLines
 bytes-one n p v = bytes-by (isAbsent v) (orderText (p / n) (p % n) v) [] ∙ append-nil (entryBytes n p v)
 
 -- one entry more

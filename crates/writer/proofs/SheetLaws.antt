@@ -12,7 +12,7 @@ use Rattle.orders.specs.Refusals.{gives, refuses}
 use Rattle.handed.specs.Conditions.{OutOfSize}
 use Rattle.handed.proofs.Basics.{sized}
 use Rattle.sheet.specs.Text.{feed, text, ended, rowsHead, colsHead, ordersHead, over}
-use Rattle.sheet.specs.Sheet.{Labelled, labelLines, presentCount, sheetOf}
+use Rattle.sheet.specs.Sheet.{Labelled, endedLines, presentCount, sheetOf}
 use Rattle.writer.specs.Parts.{labelsOf, BufferStands, labelSection, orderBytes, orderSection, restText, sheetText}
 use Rattle.sheet.proofs.Orders.{sheet-bytes}
 use Rattle.lettering.specs.Putting.{Puts}
@@ -24,12 +24,12 @@ use Rattle.writer.proofs.SlotLaws.{labels-count, buffer-slots, buffer-l
 head-length : (h : List ℕ) (n : ℕ) → length (ended (h ++ text n)) ≡ length h + length (text n) + 1
 head-length h n = length-append (h ++ text n) (feed ∷ []) ∙ omega (arith, length-append h (text n))
 
-labels-length : (h : List ℕ) (n : ℕ) (b : List ℕ) → length (labelSection h n b) ≡ length h + length (text n) + 1 + length (labelLines (labelsOf n b))
-labels-length h n b = length-append (ended (h ++ text n)) (labelLines (labelsOf n b)) ∙ omega (arith, head-length h n)
+labels-length : (h : List ℕ) (n : ℕ) (b : List ℕ) → length (labelSection h n b) ≡ length h + length (text n) + 1 + length (endedLines (labelsOf n b))
+labels-length h n b = length-append (ended (h ++ text n)) (endedLines (labelsOf n b)) ∙ omega (arith, head-length h n)
 
 pub sheet-text-length : (n : ℕ) (t : List ℤ) (r c : List ℕ)
     → length (sheetText n t r c)
-    ≡ length (text n) + 6 + length (labelLines (labelsOf n r)) + (length (text n) + 6 + length (labelLines (labelsOf n c)))
+    ≡ length (text n) + 6 + length (endedLines (labelsOf n r)) + (length (text n) + 6 + length (endedLines (labelsOf n c)))
     + (length (text (presentCount t)) + 8 + length (orderBytes n 0 t))
 sheet-text-length n t r c =
     length-append (labelSection rowsHead n r) (restText n t c)

@@ -13,7 +13,7 @@ use Rattle.sheet.specs.Text.{Each, ended}
 use Rattle.orders.specs.Tested.{Tells}
 use native.Mathlib.Decide.{ℕ-discrete}
 use Rattle.sheet.specs.Labels.{width, Form, Labels, filled, slots, slot, Repeated}
-use Rattle.sheet.specs.Sheet.{labelLines}
+use Rattle.sheet.specs.Sheet.{endedLines}
 use Rattle.sheet.proofs.Slots.{slot-at, filled-once, labels-short, form-nonzero, slots-length, filled-length}
 use Rattle.orders.proofs.Entries.{clash}
 use Rattle.writer.specs.Parts.{labelOf, labelsOf, SlotStands, BufferStands, LabelsTold}
@@ -114,25 +114,25 @@ labels-next (suc k) b =
     (labels-next k (drop width b) ∙ ap (λ x. labelsOf k (drop width b) ++ (labelOf x ∷ [])) (slot-tail b k))
 
 -- fewer labels have shorter lines
-pub lines-mono : (k n : ℕ) (b : List ℕ) → k ≤ n → length (labelLines (labelsOf k b)) ≤ length (labelLines (labelsOf n b))
-unfolding labelsOf labelLines
+pub lines-mono : (k n : ℕ) (b : List ℕ) → k ≤ n → length (endedLines (labelsOf k b)) ≤ length (endedLines (labelsOf n b))
+unfolding labelsOf endedLines
 lines-mono zero n b h = omega arith
 lines-mono (suc k) zero b h = absurd (omega arith)
 lines-mono (suc k) (suc n) b h =
     omega (
       arith,
       lines-mono k n (drop width b) (omega arith),
-      length-append (ended (labelOf (take width b))) (labelLines (labelsOf k (drop width b))),
-      length-append (ended (labelOf (take width b))) (labelLines (labelsOf n (drop width b))),
+      length-append (ended (labelOf (take width b))) (endedLines (labelsOf k (drop width b))),
+      length-append (ended (labelOf (take width b))) (endedLines (labelsOf n (drop width b))),
     )
 
 -- the line of label k after those before it
-pub label-line-next : (k : ℕ) (b : List ℕ) → labelLines (labelsOf (k + 1) b) ≡ labelLines (labelsOf k b) ++ ended (labelOf (slot b k))
+pub label-line-next : (k : ℕ) (b : List ℕ) → endedLines (labelsOf (k + 1) b) ≡ endedLines (labelsOf k b) ++ ended (labelOf (slot b k))
 label-line-next k b =
-    ap (λ i. labelLines (labelsOf i b)) (add-one k)
-    ∙ ap labelLines (labels-next k b)
-    ∙ Rattle.sheet.proofs.Orders.label-lines-append (labelsOf k b) (labelOf (slot b k) ∷ [])
-    ∙ ap (λ x. labelLines (labelsOf k b) ++ x) (Rattle.sheet.proofs.Orders.label-lines-one (labelOf (slot b k)))
+    ap (λ i. endedLines (labelsOf i b)) (add-one k)
+    ∙ ap endedLines (labels-next k b)
+    ∙ Rattle.sheet.proofs.Orders.ended-append (labelsOf k b) (labelOf (slot b k) ∷ [])
+    ∙ ap (λ x. endedLines (labelsOf k b) ++ x) (Rattle.sheet.proofs.Orders.ended-one (labelOf (slot b k)))
 
 -- a buffer that stands is the places of its labels
 stands-tail : (n : ℕ) (b : List ℕ) → BufferStands (suc n) b → BufferStands n (drop width b)

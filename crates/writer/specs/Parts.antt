@@ -8,7 +8,7 @@ use lib.Dec.{eqb}
 use lib.IntN.{ℤ}
 use lib.ListN.{length, getD, take, drop}
 use Rattle.sheet.specs.Text.{blank, text, signed, ended, rowsHead, colsHead, ordersHead}
-use Rattle.sheet.specs.Sheet.{isAbsent, presentCount, orderText, labelLines, orderLines}
+use Rattle.sheet.specs.Sheet.{isAbsent, presentCount, orderText, endedLines, orderLines}
 use Rattle.sheet.specs.Labels.{width, Form, slot}
 use Rattle.writer.specs.Promise.{WrongIn}
 
@@ -39,11 +39,11 @@ pub record LabelsTold (n : ℕ) (b : List ℕ) (r : Bool) : Type 0 where
 
 -- a section of labels: its heading with the count n, and the labels in the first n places of a buffer
 abbrev pub labelSection : List ℕ → ℕ → List ℕ → List ℕ
-labelSection head n b = ended (head ++ text n) ++ labelLines (labelsOf n b)
+labelSection head n b = ended (head ++ text n) ++ endedLines (labelsOf n b)
 
 -- the bytes of the order lines from place p on; those of one entry, none where it is absent; and the end of such a line
 abbrev pub orderBytes : ℕ → ℕ → List ℤ → List ℕ
-orderBytes n p e = labelLines (orderLines n p e)
+orderBytes n p e = endedLines (orderLines n p e)
 
 abbrev pub entryBytes : ℕ → ℕ → ℤ → List ℕ
 entryBytes n p v = cond (isAbsent v) [] (ended (orderText (p / n) (p % n) v))

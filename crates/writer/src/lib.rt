@@ -6,7 +6,7 @@ ghost use Rattle.orders.specs.Places.{Square};
 ghost use Rattle.theory.specs.Limits.{rows as limit};
 ghost use Rattle.sheet.specs.Labels.{width};
 ghost use Rattle.sheet.specs.Text.{signed, ended};
-ghost use Rattle.sheet.specs.Sheet.{presentCount, labelLines};
+ghost use Rattle.sheet.specs.Sheet.{presentCount, endedLines};
 ghost use Rattle.lettering.specs.Putting.{Puts};
 ghost use Rattle.writer.specs.Parts.{labelOf, labelsOf, SlotStands, LabelsTold, labelSection, orderBytes, entryBytes};
 ghost use Rattle.writer.specs.Parts.{orderEnd, orderSection, restText, sheetText, label-most, value-most, line-most};
@@ -93,7 +93,7 @@ fn labels_stand(n: usize, labels: &[u8]) -> bool
 // The bytes of the label lines. Rules out every other number: the room is measured by it.
 fn labels_length(n: usize, labels: &[u8]) -> usize
     requires { ⌜ (n ≤ limit) × (width * n ≤ length (now labels)) ⌝ }
-    ensures { λ r. ⌜ (r ≡ length (labelLines (labelsOf n (now (labels .entry))))) × (r ≤ label-most * n) ⌝ }
+    ensures { λ r. ⌜ (r ≡ length (endedLines (labelsOf n (now (labels .entry))))) × (r ≤ label-most * n) ⌝ }
 {
     let mut sum: usize = 0;
     let mut k = 0;
@@ -119,8 +119,8 @@ fn put_label(slot: &[u8], out: &mut [u8]) -> usize
 
 // The label lines in the room. Rules out a label left out, and a byte changed behind them.
 fn put_labels(n: usize, labels: &[u8], out: &mut [u8]) -> usize
-    requires { ⌜ (width * n ≤ length (now labels)) × (length (labelLines (labelsOf n (now labels))) ≤ length (now out)) ⌝ }
-    ensures { λ r. ⌜ Puts (labelLines (labelsOf n (now (labels .entry)))) (now (out .entry)) (now (out .exit)) r ⌝ }
+    requires { ⌜ (width * n ≤ length (now labels)) × (length (endedLines (labelsOf n (now labels))) ≤ length (now out)) ⌝ }
+    ensures { λ r. ⌜ Puts (endedLines (labelsOf n (now (labels .entry)))) (now (out .entry)) (now (out .exit)) r ⌝ }
 {
     let mut at: usize = 0;
     let mut k = 0;

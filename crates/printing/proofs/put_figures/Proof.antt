@@ -5,7 +5,7 @@ use mathlib.Core.Path.{ap}
 use mathlib.Core.List.{[], _∷_}
 use mir.Facts.{toZ-ofZ}
 use Rattle.sheet.specs.Text.{signed}
-use Rattle.sheet.specs.Sheet.{labelSection}
+use Rattle.sheet.specs.Sheet.{countedLines}
 use Rattle.printing.specs.Printed.{sumHead}
 use Rattle.printing.proofs.put_figures.Statement.{statement}
 use Rattle.printing.proofs.put_figures.Tie as tie
@@ -52,7 +52,7 @@ same-length c = search needs
 returns : tie.Need-returns
 returns c =
     let s = c .before .before .before .before .before .before .before .before .before .before .before .before .before .before .before .before .before .before .before .before .before .before .before .before .before .before .before .before .before .before in
-    figures-put (record { adds = s .args .adds .now; stars = s .args .stars .now; heads = s .args .heads .now; sum = s .args .sum; index = s .args .index }) (s .args .page .now) _ _ _ _ _ (c .before .before .before .before .before .before .before .before .before .before .before .before .before .before .before .before .before .before .before .before .before .before .before .before .add-numbers .result) (c .before .before .before .before .before .before .before .before .before .before .before .before .before .before .before .before .before .before .before .add-numbers2 .result) (c .before .before .before .before .before .before .before .before .before .before .before .before .before .before .add-signed .result) (c .before .before .before .before .before .before .before .before .add-signed2 .result) (c .before .before .add-numbers3 .result) (c .before .before .before .before .before .before .before .before .before .before .before .before .before .before .before .before .before .before .before .before .before .before .before .before .add-numbers .ensures) (c .before .before .before .before .before .before .before .before .before .before .before .before .before .before .before .before .before .before .before .add-numbers2 .ensures) (c .before .before .before .before .before .before .before .before .before .before .before .before .before .before .add-signed .ensures) (follows-same _ (labelSection sumHead (signed (s .args .sum) ∷ [])) (c .before .before .before .before .before .before .before .before .before .before .before .before .before .before .add-signed .result) _ _ (c .before .before .before .before .before .before .before .before .add-signed2 .result) (ap (λ x. labelSection sumHead (signed x ∷ [])) (toZ-ofZ (s .fits .sum))) (c .before .before .before .before .before .before .before .before .add-signed2 .ensures)) (c .before .before .add-numbers3 .ensures)
+    figures-put (record { adds = s .args .adds .now; stars = s .args .stars .now; heads = s .args .heads .now; sum = s .args .sum; index = s .args .index }) (s .args .page .now) _ _ _ _ _ (c .before .before .before .before .before .before .before .before .before .before .before .before .before .before .before .before .before .before .before .before .before .before .before .before .add-numbers .result) (c .before .before .before .before .before .before .before .before .before .before .before .before .before .before .before .before .before .before .before .add-numbers2 .result) (c .before .before .before .before .before .before .before .before .before .before .before .before .before .before .add-signed .result) (c .before .before .before .before .before .before .before .before .add-signed2 .result) (c .before .before .add-numbers3 .result) (c .before .before .before .before .before .before .before .before .before .before .before .before .before .before .before .before .before .before .before .before .before .before .before .before .add-numbers .ensures) (c .before .before .before .before .before .before .before .before .before .before .before .before .before .before .before .before .before .before .before .add-numbers2 .ensures) (c .before .before .before .before .before .before .before .before .before .before .before .before .before .before .add-signed .ensures) (follows-same _ (countedLines sumHead (signed (s .args .sum) ∷ [])) (c .before .before .before .before .before .before .before .before .before .before .before .before .before .before .add-signed .result) _ _ (c .before .before .before .before .before .before .before .before .add-signed2 .result) (ap (λ x. countedLines sumHead (signed x ∷ [])) (toZ-ofZ (s .fits .sum))) (c .before .before .before .before .before .before .before .before .add-signed2 .ensures)) (c .before .before .add-numbers3 .ensures)
 
 pub put-figures-spec : {M : Type 1} → statement M
 put-figures-spec =

@@ -7,7 +7,7 @@ use mathlib.Core.List.{map}
 use lib.ListN.{length}
 use lib.Seq.{take-all}
 use Rattle.sheet.specs.Text.{text}
-use Rattle.sheet.specs.Sheet.{labelLines}
+use Rattle.sheet.specs.Sheet.{endedLines}
 use Rattle.printing.proofs.Pages.{Lined, lined-none, lined-next, room-left, short-same}
 use Rattle.printing.proofs.put_number_lines.Statement.{statement}
 use Rattle.printing.proofs.put_number_lines.Tie as tie
@@ -63,7 +63,7 @@ returns c =
     let s = c .before .before .before .before in
     let l = c .before .loop in
     let e : l .k ≡ length (s .args .values .now) = omega arith in
-    short-same _ (labelLines (map text (s .args .values .now))) (s .args .out .now) (l .out) (l .at) (12 * l .k) _ (ap (λ x. labelLines (map text x)) (take-all (l .k) (s .args .values .now) (omega arith))) (omega arith) (l .inv .3)
+    short-same _ (endedLines (map text (s .args .values .now))) (s .args .out .now) (l .out) (l .at) (12 * l .k) _ (ap (λ x. endedLines (map text x)) (take-all (l .k) (s .args .values .now) (omega arith))) (omega arith) (l .inv .3)
 
 pub put-number-lines-spec : {M : Type 1} → statement M
 put-number-lines-spec =

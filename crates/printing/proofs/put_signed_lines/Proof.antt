@@ -10,7 +10,7 @@ use lib.Seq.{take-all}
 use mir.Syntax.{w32}
 use Rattle.orders.proofs.Entries.{back}
 use Rattle.sheet.specs.Text.{signed, ended}
-use Rattle.sheet.specs.Sheet.{labelLines}
+use Rattle.sheet.specs.Sheet.{endedLines}
 use Rattle.printing.proofs.Pages.{Lined, lined-none, lined-next, room-left, short-same}
 use Rattle.printing.proofs.put_signed_lines.Statement.{statement}
 use Rattle.printing.proofs.put_signed_lines.Tie as tie
@@ -66,7 +66,7 @@ returns c =
     let s = c .before .before .before in
     let l = c .before .loop in
     let e : l .k ≡ length (s .args .values .now) = omega arith in
-    short-same _ (labelLines (map signed (s .args .values .now))) (s .args .out .now) (l .out) (l .at) (12 * l .k) _ (ap (λ x. labelLines (map signed x)) (take-all (l .k) (s .args .values .now) (omega arith))) (omega arith) (l .inv .3)
+    short-same _ (endedLines (map signed (s .args .values .now))) (s .args .out .now) (l .out) (l .at) (12 * l .k) _ (ap (λ x. endedLines (map signed x)) (take-all (l .k) (s .args .values .now) (omega arith))) (omega arith) (l .inv .3)
 
 pub put-signed-lines-spec : {M : Type 1} → statement M
 put-signed-lines-spec =

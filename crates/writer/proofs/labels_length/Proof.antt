@@ -6,7 +6,7 @@ use mathlib.Core.Path.{_≡_, refl, ap, _∙_}
 use lib.ListN.{length, length-append}
 use Rattle.theory.specs.Limits.{rows}
 use Rattle.sheet.specs.Labels.{width, slot}
-use Rattle.sheet.specs.Sheet.{labelLines}
+use Rattle.sheet.specs.Sheet.{endedLines}
 use Rattle.sheet.specs.Text.{ended}
 use Rattle.sheet.proofs.Slots.{part-slot}
 use Rattle.writer.specs.Parts.{labelOf, labelsOf, label-most}
@@ -19,7 +19,7 @@ Inv-loop n labels sum₀ k₀ sum k =
     (k ≤ n)
     × (n ≤ rows)
     × (width * n ≤ length labels)
-    × (sum ≡ length (labelLines (labelsOf k labels)))
+    × (sum ≡ length (endedLines (labelsOf k labels)))
     × (sum ≤ label-most * k)
 
 abbrev μ-loop : tie.MeasureT-loop
@@ -36,7 +36,7 @@ told c =
     (e, omega (arith, label-le (slot b k), slot-length b k (omega arith)))
 
 loop-holds : tie.Need-loop-holds Inv-loop μ-loop
-unfolding labelsOf labelLines
+unfolding labelsOf endedLines
 loop-holds c = (omega arith, c .before .pre .0, c .before .pre .1, refl, omega arith)
 
 mul-a : tie.Need-mul-a Inv-loop μ-loop
@@ -82,7 +82,7 @@ loop-again c =
         told c .0,
         l .inv .3,
         ap length (label-line-next (l .k) b),
-        length-append (labelLines (labelsOf (l .k) b)) (ended label),
+        length-append (endedLines (labelsOf (l .k) b)) (ended label),
         line-length label,
       ),
       omega (arith, told c .1, l .inv .4),
@@ -93,7 +93,7 @@ returns c =
     let l = c .before .loop in
     let s = c .before .before .before in
     let e : l .k ≡ s .args .n = omega arith in
-    (l .inv .3 ∙ ap (λ x. length (labelLines (labelsOf x (s .args .labels .now)))) e, omega (arith, l .inv .4))
+    (l .inv .3 ∙ ap (λ x. length (endedLines (labelsOf x (s .args .labels .now)))) e, omega (arith, l .inv .4))
 
 pub labels-length-spec : {M : Type 1} → statement M
 labels-length-spec =

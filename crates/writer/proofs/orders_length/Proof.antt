@@ -10,7 +10,7 @@ use mir.Syntax.{w16}
 use Rattle.orders.specs.Places.{Square}
 use Rattle.orders.proofs.Entries.{back}
 use Rattle.orders.proofs.Places.{square-small}
-use Rattle.sheet.specs.Sheet.{labelLines, orderLines}
+use Rattle.sheet.specs.Sheet.{endedLines, orderLines}
 use Rattle.writer.specs.Parts.{orderBytes, entryBytes, line-most}
 use Rattle.writer.proofs.OrderLaws.{order-lines-next}
 use Rattle.writer.proofs.orders_length.Statement.{statement}
@@ -33,7 +33,7 @@ told : (c : tie.After-order-length Inv-loop μ-loop)
 told c = simp (back w16 (entry c) (c .before .order-length-arg .given)) at (c .order-length .ensures)
 
 loop-holds : tie.Need-loop-holds Inv-loop μ-loop
-unfolding labelLines orderLines
+unfolding endedLines orderLines
 loop-holds c = (omega arith, c .pre, refl, omega arith)
 
 mul-order-length : tie.Need-mul-order-length Inv-loop μ-loop

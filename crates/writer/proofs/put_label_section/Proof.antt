@@ -4,7 +4,7 @@ use native.Mathlib.Omega.{arith}
 use mathlib.Core.Path.{refl}
 use mathlib.Core.List.{_++_}
 use Rattle.lettering.proofs.PutLaws.{first-room, FirstPut, tail-inside, tail-room, total-fits, both-put}
-use Rattle.sheet.specs.Sheet.{labelLines}
+use Rattle.sheet.specs.Sheet.{endedLines}
 use Rattle.sheet.specs.Text.{text, ended}
 use Rattle.writer.specs.Parts.{labelsOf}
 use Rattle.writer.proofs.put_label_section.Statement.{statement}
@@ -14,14 +14,14 @@ abbrev start : tie.After-put-heading → tie.Start
 start c = c .before .before .before .before .before
 
 first-put : (c : tie.After-put-heading)
-    → FirstPut (ended (start c .args .head .now ++ text (start c .args .n))) (labelLines (labelsOf (start c .args .n) (start c .args .labels .now)))
+    → FirstPut (ended (start c .args .head .now ++ text (start c .args .n))) (endedLines (labelsOf (start c .args .n) (start c .args .labels .now)))
     (start c .args .out .now) (c .put-heading .last .1 .1 .0) (c .put-heading .result)
 first-put c = record { put = c .put-heading .ensures; fits = start c .pre .1 }
 
 put-heading-requires : tie.Need-put-heading-requires
 put-heading-requires c κs =
     let s = c .before .before .before .before in
-    first-room (ended (s .args .head .now ++ text (s .args .n))) (labelLines (labelsOf (s .args .n) (s .args .labels .now))) (s .args .out .now) (s .pre .1)
+    first-room (ended (s .args .head .now ++ text (s .args .n))) (endedLines (labelsOf (s .args .n) (s .args .labels .now))) (s .args .out .now) (s .pre .1)
 
 sub-put-labels : tie.Need-sub-put-labels
 sub-put-labels c = omega (arith, tail-inside (first-put (c .before .before)))

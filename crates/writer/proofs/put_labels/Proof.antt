@@ -8,7 +8,7 @@ use lib.ListN.{length, take, drop}
 use Rattle.lettering.specs.Putting.{Puts}
 use Rattle.lettering.proofs.PutLaws.{puts-none, puts-same, puts-length, FirstPut, tail-inside, tail-room, total-fits, both-put}
 use Rattle.sheet.specs.Labels.{width, slot}
-use Rattle.sheet.specs.Sheet.{labelLines}
+use Rattle.sheet.specs.Sheet.{endedLines}
 use Rattle.sheet.specs.Text.{ended}
 use Rattle.sheet.proofs.Slots.{part-slot}
 use Rattle.writer.specs.Parts.{labelOf, labelsOf}
@@ -20,9 +20,9 @@ abbrev Inv-loop : tie.InvT-loop
 Inv-loop n labels out₀ at₀ k₀ out at k =
     (k ≤ n)
     × (width * n ≤ length labels)
-    × (length (labelLines (labelsOf n labels)) ≤ length out₀)
+    × (length (endedLines (labelsOf n labels)) ≤ length out₀)
     × (length out ≡ length out₀)
-    × Puts (labelLines (labelsOf k labels)) out₀ out at
+    × Puts (endedLines (labelsOf k labels)) out₀ out at
 
 abbrev μ-loop : tie.MeasureT-loop
 μ-loop n labels out₀ at₀ k₀ out at k = n - k
@@ -45,15 +45,15 @@ lent : (c : tie.In-loop Inv-loop μ-loop)
 lent c = ap (λ x. ended (labelOf x)) (part-slot (buffer c) (width * place c) (width * place c + width) (place c) refl refl)
 
 -- the lines with one label more fit where all do
-more-fits : (c : tie.In-loop Inv-loop μ-loop) → length (labelLines (labelsOf (place c + 1) (buffer c))) ≤ length (start c .args .out .now)
+more-fits : (c : tie.In-loop Inv-loop μ-loop) → length (endedLines (labelsOf (place c + 1) (buffer c))) ≤ length (start c .args .out .now)
 more-fits c = omega (arith, lines-mono (place c + 1) (start c .args .n) (buffer c) (omega arith), c .before .loop .inv .2)
 
 first-put : (c : tie.In-loop Inv-loop μ-loop)
-    → FirstPut (labelLines (labelsOf (place c) (buffer c))) (line c) (start c .args .out .now) (c .before .loop .out) (c .before .loop .at)
+    → FirstPut (endedLines (labelsOf (place c) (buffer c))) (line c) (start c .args .out .now) (c .before .loop .out) (c .before .loop .at)
 first-put c = record { put = c .before .loop .inv .4; fits = omega (arith, more-fits c, ap length (label-line-next (place c) (buffer c))) }
 
 loop-holds : tie.Need-loop-holds Inv-loop μ-loop
-unfolding labelsOf labelLines
+unfolding labelsOf endedLines
 loop-holds c = (omega arith, c .before .before .pre .0, c .before .before .pre .1, refl, puts-none (c .before .before .args .out .now))
 
 mul-a : tie.Need-mul-a Inv-loop μ-loop
@@ -109,7 +109,7 @@ returns : tie.Need-returns Inv-loop μ-loop
 returns c =
     let s = c .before .before .before .before in
     let e : c .before .loop .k ≡ s .args .n = omega arith in
-    puts-same _ _ _ _ _ (ap (λ x. labelLines (labelsOf x (s .args .labels .now))) e) (c .before .loop .inv .4)
+    puts-same _ _ _ _ _ (ap (λ x. endedLines (labelsOf x (s .args .labels .now))) e) (c .before .loop .inv .4)
 
 pub put-labels-spec : {M : Type 1} → statement M
 put-labels-spec =

@@ -11,7 +11,7 @@ use mir.Syntax.{w16}
 use Rattle.lettering.specs.Putting.{Puts}
 use Rattle.lettering.proofs.PutLaws.{puts-none, puts-same, puts-length, FirstPut, tail-inside, tail-room, total-fits, both-put}
 use Rattle.orders.proofs.Entries.{back}
-use Rattle.sheet.specs.Sheet.{labelLines, orderLines}
+use Rattle.sheet.specs.Sheet.{endedLines, orderLines}
 use Rattle.writer.specs.Parts.{orderBytes, entryBytes}
 use Rattle.writer.proofs.OrderLaws.{order-lines-next, next-room, front-lines}
 use Rattle.writer.proofs.put_orders.Statement.{statement}
@@ -49,7 +49,7 @@ first-put c =
     record { put = l .inv .4; fits = next-room (start c .args .n) (table c) (place c) (start c .args .out .now) (omega arith) (l .inv .2) }
 
 loop-holds : tie.Need-loop-holds Inv-loop μ-loop
-unfolding labelLines orderLines
+unfolding endedLines orderLines
 loop-holds c = (omega arith, c .before .pre .0, c .before .pre .1, refl, puts-none (c .before .args .out .now))
 
 mul-put-order : tie.Need-mul-put-order Inv-loop μ-loop

@@ -61,7 +61,7 @@ extern "C" {
 #define CANON_PLACES 1024    /* the table that the reader wants lent */
 #define CANON_LABELS 256     /* each label buffer that the reader wants lent: 8 bytes a label */
 #define CANON_SHEET 12288    /* the longest sheet, in bytes */
-#define CANON_PRINTED 512    /* room enough for every printed answer */
+#define CANON_PRINTED 4000   /* room enough for every printed answer */
 
 #define CANON_SIZE 1
 #define CANON_LENGTH 2

@@ -176,7 +176,7 @@ fn example_sheets(driver: &mut Driver, chance: &mut Chance, tally: &mut Tally, f
         let sheet = std::fs::read(path).expect("a sheet");
         let answer = std::fs::read(path.with_extension("answer")).expect("an answer beside the sheet");
         let mut request = sheets::print_request(chance, &sheet);
-        request.parts[1] = tables::lent(chance, 1, 512);
+        request.parts[1] = tables::lent(chance, 1, sheets::PRINTED);
         let mut wanted = request.refused(0);
         wanted.parts[1].write_front(&answer);
         wanted.parts[2] = Part::length(answer.len() as u64);

@@ -373,8 +373,11 @@ fn spoil_label(chance: &mut Chance, slots: &mut [u8]) {
     }
 }
 
+/// Room enough for every printed answer: CANON_PRINTED of canon.h.
+pub const PRINTED: usize = 4000;
+
 /// A request of the printer with rooms of many lengths.
 pub fn print_request(chance: &mut Chance, sheet: &[u8]) -> Request {
-    let room = chance.one_of(&[512, 512, 512, 467, 466, 60, 20, 9, 0]);
+    let room = chance.one_of(&[PRINTED, PRINTED, 467, 466, 60, 20, 9, 0]);
     Request { call: Call::Print, n: 0, parts: vec![Part::text(sheet), lent(chance, 1, room), lent(chance, 8, 1)] }
 }

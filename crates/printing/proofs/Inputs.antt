@@ -1,20 +1,16 @@
 -- What was read of an input tells the answer of the whole of it. Assumes nothing.
-use mathlib.Core.Path.{_≡_, sym, ap, subst, _∙_}
+use mathlib.Core.Path.{_≡_, sym, subst, _∙_}
 use mathlib.Core.List.{List}
-use Prim.Native.Nat.{ℕ, _<_, _≤_}
+use Prim.Native.Nat.{ℕ, suc, _<_, _≤_}
 use native.Mathlib.Decide.{decLe}
 use native.Mathlib.Omega.{arith}
-use lib.ListN.{length, take, drop, length-append, length-take}
+use lib.ListN.{length, take, length-take}
 use lib.Seq.{take-all, length-take-le}
 use Rattle.theory.specs.Limits.{sheet}
 use Rattle.orders.specs.Refusals.{Said}
-use Rattle.lettering.specs.Putting.{Puts}
-use Rattle.lettering.proofs.PutLaws.{puts-same}
-use Rattle.printing.specs.Printed.{Figures, enough, printed}
-use Rattle.printing.specs.Promise.{SheetSays, too-long, wrong-line, of-table, ReadOf, InputPromise}
-use Rattle.printing.specs.Parts.{Prints}
-use Rattle.printing.proofs.Fits.{answers-fit}
-use Rattle.printing.proofs.Saying.{on-page}
+use Rattle.printing.specs.Printed.{Figures, enough}
+use Rattle.printing.specs.Promise.{SheetSays, too-long, wrong-line, of-table, Prints, ReadOf, InputPromise}
+use Rattle.printing.proofs.Copying.{page-inside}
 
 -- The first m bytes of an input, with m above the limit of a sheet, have the input's own answer: either they are the whole input, or
 -- both are longer than any sheet.
@@ -33,21 +29,20 @@ whole-says input m a h says = elim (decLe (length input) m) [
 pub past : (buffer : List ℕ) (n end : ℕ) → end ≡ length buffer → length buffer ≤ n → take end buffer ≡ take n buffer
 past buffer n end e h = take-all end buffer (omega arith) ∙ sym (take-all n buffer h)
 
--- an answer on a page fits the room
-pub page-fits : (s page page′ : List ℕ) (k : ℕ) → Prints (SheetSays s) page page′ k → k ≤ enough
-page-fits s page page′ k p = omega (arith, p .puts .puts .is-length, answers-fit s (p .said) (p .holds))
-
--- copied out, it is the answer of every input of which these bytes were read
-pub copied-input : (buffer : List ℕ) (n end : ℕ) (page page′ room room′ : List ℕ) (k r : ℕ) → sheet < length buffer → take end buffer ≡ take n buffer
-    → Prints (SheetSays (take end buffer)) page page′ k → Puts (take k page′) room room′ r → InputPromise buffer n room room′ r
-copied-input buffer n end page page′ room room′ k r h e p q =
+-- the answer of the bytes that were read is that of every input of which they were read
+pub answers-input : {s buffer : List ℕ} {n : ℕ} {room room′ : List ℕ} {r : ℕ} → length buffer ≡ suc sheet → length room ≡ enough → s ≡ take n buffer
+    → Prints (SheetSays s) room room′ r → InputPromise buffer n room room′ r
+answers-input {buffer = buffer} one-more roomy e p =
     record {
+      one-more = one-more;
+      roomy = roomy;
       answers = λ input read.
           record {
             said = p .said;
-            says-so =
-                whole-says input (length buffer) (p .said) h (subst (λ x. SheetSays x (p .said)) (e ∙ read .front) (p .holds));
-            puts = puts-same (take k page′) (printed (p .said)) room room′ r (on-page (take end buffer) page page′ k p) q;
+            holds =
+                whole-says input (length buffer) (p .said) (omega arith)
+                (subst (λ x. SheetSays x (p .said)) (e ∙ read .front) (p .holds));
+            puts = p .puts;
           };
     }
 
@@ -58,12 +53,5 @@ own-input buffer n =
     record { front = sym (take-all (length buffer) (take n buffer) (omega (arith, length-take n buffer))) }
 
 -- as many bytes as are told stand in the room
-pub input-inside : (buffer : List ℕ) (n : ℕ) (room room′ : List ℕ) (r : ℕ) → InputPromise buffer n room room′ r → r ≤ length room′
-input-inside buffer n room room′ r p =
-    let a = p .answers (take n buffer) (own-input buffer n) in
-    omega (
-      arith,
-      a .puts .is-length,
-      ap length (a .puts .is),
-      length-append (printed (a .said)) (drop (length (printed (a .said))) room),
-    )
+pub input-inside : {buffer : List ℕ} {n : ℕ} {room room′ : List ℕ} {r : ℕ} → InputPromise buffer n room room′ r → r ≤ length room′
+input-inside {buffer} {n} p = page-inside (p .answers (take n buffer) (own-input buffer n))

@@ -1,7 +1,10 @@
-pub mod Pages
-pub mod Figures
+pub mod Joining
+pub mod Headings
+pub mod Refusing
+pub mod Fits
 pub mod Saying
+pub mod Copying
+pub mod Inputs
+pub mod Figures
 pub mod Unique
 pub mod Shown
-pub mod Fits
-pub mod Inputs

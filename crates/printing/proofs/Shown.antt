@@ -2,7 +2,7 @@
 use mathlib.Core.Path.{_≡_, refl, ap, _∙_}
 use mathlib.Core.Logic.{_≢_}
 use mathlib.Core.Bool.{Bool, _&&_}
-use mathlib.Core.List.{List, [], _∷_}
+use mathlib.Core.List.{List, [], _∷_, flatMap}
 use Prim.Native.Nat.{ℕ, zero, suc, _-_, _≤_, _<_}
 use native.Mathlib.Omega.{arith}
 use lib.Dec.{T, leb, leb→le}
@@ -19,7 +19,7 @@ use Rattle.sheet.specs.Text.{ascii, over, text, digits}
 use Rattle.sheet.specs.Labels.{small, width, Form, Labels}
 use Rattle.sheet.specs.Sheet.{Labelled, Stands, sheetOf, endedLines, orderLines, presentCount}
 use Rattle.sheet.proofs.Matching.{written-is-read}
-use Rattle.printing.specs.Printed.{Figures, printed}
+use Rattle.printing.specs.Printed.{Figures, figures, printed}
 use Rattle.printing.specs.Shown.{pendulum-sheet, pendulum-answer}
 use Rattle.printing.specs.Promise.{SheetSays, solved, of-table, PrintPromise, no-room, wrote}
 use Rattle.printing.proofs.Unique.{sheet-once}
@@ -33,16 +33,16 @@ drawn =
       entries = pendulum;
     }
 
-abbrev figures : Figures
-figures = record { adds = 0 ∷ 0 ∷ 2 ∷ []; stars = 1 ∷ 3 ∷ 2 ∷ []; heads = pos 2 ∷ pos 2 ∷ pos 0 ∷ []; sum = pos 2; index = 2 }
+abbrev shown : Figures
+shown = figures (0 ∷ 0 ∷ 2 ∷ []) (1 ∷ 3 ∷ 2 ∷ []) (pos 2 ∷ pos 2 ∷ pos 0 ∷ []) (pos 2) 2
 
 -- both are computed: the one sheet of the labelled table, and the printed figures
 sheet-is : sheetOf drawn ≡ pendulum-sheet
 unfolding endedLines orderLines presentCount text digits
 sheet-is = refl
 
-answer-is : printed (gives figures) ≡ pendulum-answer
-unfolding endedLines text digits
+answer-is : printed (gives shown) ≡ pendulum-answer
+unfolding flatMap endedLines text digits
 answer-is = refl
 
 -- "`refused 6`, or `refused 10 7` for line 7"
@@ -71,7 +71,8 @@ form l t =
 last : List ℕ → ℕ
 last l = getD l (length l - 1) 0
 
-labels : (a b c : List ℕ) → T (every (letter-tests a)) → T (every (letter-tests b)) → T (every (letter-tests c)) → last a ≢ last b → last a ≢ last c → last b ≢ last c → Labels (a ∷ b ∷ c ∷ [])
+labels : (a b c : List ℕ) → T (every (letter-tests a)) → T (every (letter-tests b)) → T (every (letter-tests c)) → last a ≢ last b
+    → last a ≢ last c → last b ≢ last c → Labels (a ∷ b ∷ c ∷ [])
 labels a b c p q r ab ac bc = record { form = at; apart = apart }
   where
     at : (k : ℕ) → k < 3 → Form (getD (a ∷ b ∷ c ∷ []) k [])
@@ -96,7 +97,7 @@ right : Right (record {
   size = 3;
   table = pendulum;
   handed = nothing;
-  outcome = answer (figures .adds) (figures .stars) (figures .heads) (figures .sum);
+  outcome = answer (shown .adds) (shown .stars) (shown .heads) (shown .sum);
 })
 right = cases-right .1 .1 .1 .1 .1 .1 .1 .1 .1 .1 .0
 
@@ -113,19 +114,19 @@ stands =
       entries-stand = right .entries;
     }
 
-index : Index 3 (entry pendulum 3) (nums (figures .adds)) 2
+index : Index 3 (entry pendulum 3) (nums (shown .adds)) 2
 index = record { row = 2; inside = omega arith; is = refl; largest = most }
   where
-    most : (i : ℕ) → i < 3 → nums (figures .adds) i ≤ 2
+    most : (i : ℕ) → i < 3 → nums (shown .adds) i ≤ 2
     most zero h = omega arith
     most (suc zero) h = omega arith
     most (suc (suc zero)) h = omega arith
     most (suc (suc (suc i))) h = absurd (omega arith)
 
-says : SheetSays pendulum-sheet (gives figures)
+says : SheetSays pendulum-sheet (gives shown)
 says =
     of-table drawn (omega arith) (rw sheet-is at (written-is-read drawn stands))
-    (solved figures
+    (solved shown
     (record {
       adds-long = refl;
       star-list = right .comes .1;
@@ -141,7 +142,7 @@ pub pendulum-prints : (room room′ : List ℕ) (r : Said ℕ) → PrintPromise 
 pendulum-prints room room′ r p fits = go p
   where
     is : (a : Said Figures) → SheetSays pendulum-sheet a → printed a ≡ pendulum-answer
-    is a s = ap printed (sheet-once pendulum-sheet a (gives figures) s says) ∙ answer-is
+    is a s = ap printed (sheet-once pendulum-sheet a (gives shown) s says) ∙ answer-is
 
     go : PrintPromise pendulum-sheet room room′ r → (r ≡ gives (length pendulum-answer)) × (room′ ≡ over pendulum-answer room)
     go (no-room a s short e f) = absurd (omega (arith, ap length (is a s)))

@@ -13,8 +13,9 @@ use Rattle.orders.specs.Refusals.{numberOf, valuesOf, Said, gives, refuses}
 use Rattle.orders.proofs.Refusals.{refusal-once, given-once, not-both}
 use Rattle.sheet.specs.Text.{over}
 use Rattle.sheet.proofs.Once.{good-once, wrong-once, good-not-wrong}
-use Rattle.printing.specs.Printed.{Figures, printed}
-use Rattle.printing.specs.Promise.{says, FiguresOf, TableSays, no-transversal, solved, SheetSays, too-long, wrong-line, of-table, PrintPromise, no-room, wrote, InputPromise}
+use Rattle.printing.specs.Printed.{Figures, figures, printed}
+use Rattle.printing.specs.Promise.{FiguresOf, TableSays, no-transversal, solved, SheetSays, too-long, wrong-line, of-table}
+use Rattle.printing.specs.Promise.{says, PrintPromise, no-room, wrote, InputPromise}
 use Rattle.printing.specs.declared.Printed.{Printed}
 use Rattle.printing.specs.declared.Printed.the-variants.{Bytes, Refused}
 use Rattle.printing.proofs.Inputs.{own-input}
@@ -34,19 +35,21 @@ star-same n a b s t i h e = omega (arith, s .from-one i h, t .from-one i h)
 figures-once : (n : ℕ) (t : List ℤ) (f g : Figures) → FiguresOf n t f → FiguresOf n t g → f ≡ g
 figures-once n t f g p q =
     let o = solution-once n (entry t n) (p .solution) (q .solution) in
-    let a : f .adds ≡ g .adds = ext-getD 0 (f .adds) (g .adds) (p .adds-long ∙ sym (q .adds-long)) (λ i h. o .additions i (omega (arith, p .adds-long))) in
+    let a : f .adds ≡ g .adds = ext-getD 0 (f .adds) (g .adds) (p .adds-long ∙ sym (q .adds-long))
+    (λ i h. o .additions i (omega (arith, p .adds-long))) in
     let s : f .stars ≡ g .stars = ext-getD 0 (f .stars) (g .stars) (p .star-list .long ∙ sym (q .star-list .long))
     (λ i h.
     let k : i < n = omega (arith, p .star-list .long) in
     star-same n (f .stars) (g .stars) (p .star-list) (q .star-list) i k (o .stars i k)) in
-    let z : f .heads ≡ g .heads = ext-getD (pos 0) (f .heads) (g .heads) (p .heads-long ∙ sym (q .heads-long)) (λ i h. o .heads i (omega (arith, p .heads-long))) in
+    let z : f .heads ≡ g .heads = ext-getD (pos 0) (f .heads) (g .heads) (p .heads-long ∙ sym (q .heads-long))
+    (λ i h. o .heads i (omega (arith, p .heads-long))) in
     let v : f .sum ≡ g .sum = o .one-sum in
     let x : f .index ≡ g .index = index-once n (entry t n) (o .additions) (p .is-index) (q .is-index) in
-    ap (λ y. record { adds = y; stars = f .stars; heads = f .heads; sum = f .sum; index = f .index }) a
-    ∙ ap (λ y. record { adds = g .adds; stars = y; heads = f .heads; sum = f .sum; index = f .index }) s
-    ∙ ap (λ y. record { adds = g .adds; stars = g .stars; heads = y; sum = f .sum; index = f .index }) z
-    ∙ ap (λ y. record { adds = g .adds; stars = g .stars; heads = g .heads; sum = y; index = f .index }) v
-    ∙ ap (λ y. record { adds = g .adds; stars = g .stars; heads = g .heads; sum = g .sum; index = y }) x
+    ap (λ y. figures y (f .stars) (f .heads) (f .sum) (f .index)) a
+    ∙ ap (λ y. figures (g .adds) y (f .heads) (f .sum) (f .index)) s
+    ∙ ap (λ y. figures (g .adds) (g .stars) y (f .sum) (f .index)) z
+    ∙ ap (λ y. figures (g .adds) (g .stars) (g .heads) y (f .index)) v
+    ∙ ap (figures (g .adds) (g .stars) (g .heads) (g .sum)) x
 
 -- a table with figures has a complete transversal
 some-transversal : {X : Type 0} (n : ℕ) (t : List ℤ) (f : Figures) → FiguresOf n t f → Rattle.theory.specs.Canon.NoTransversal n (Rattle.theory.specs.Table.entry t n) → X
@@ -89,7 +92,7 @@ pub input-once : (buffer : List ℕ) (n : ℕ) (room p q : List ℕ) (r s : ℕ)
 input-once buffer n room p q r s f g =
     let x = f .answers (take n buffer) (own-input buffer n) in
     let y = g .answers (take n buffer) (own-input buffer n) in
-    let c : x .said ≡ y .said = sheet-once (take n buffer) (x .said) (y .said) (x .says-so) (y .says-so) in (
+    let c : x .said ≡ y .said = sheet-once (take n buffer) (x .said) (y .said) (x .holds) (y .holds) in (
       x .puts .is-length ∙ ap (λ a. length (printed a)) c ∙ sym (y .puts .is-length),
       x .puts .is ∙ ap (λ a. over (printed a) room) c ∙ sym (y .puts .is),
     )

@@ -1,7 +1,9 @@
 -- "The printed answer, whole."
-use mathlib.Core.List.{List, [], _∷_, _++_, map}
-use Prim.Native.Nat.{ℕ}
+use mathlib.Core.List.{List, [], _∷_, _++_, map, flatMap}
+use Prim.Native.Nat.{ℕ, _+_, _*_}
+use Prim.Native.String.{String}
 use lib.IntN.{ℤ}
+use Rattle.theory.specs.Limits.{rows}
 use Rattle.sheet.specs.Text.{blank, ascii, text, signed, ended}
 use Rattle.sheet.specs.Sheet.{countedLines}
 use Rattle.orders.specs.Refusals.{Said, gives, refuses}
@@ -14,41 +16,66 @@ pub record Figures : Type 0 where
   pub sum : ℤ
   pub index : ℕ
 
--- `adds `, `stars `, `heads `, `sum `, `index ` and `refused `
-abbrev pub addsHead : List ℕ
-addsHead = ascii "adds "
+abbrev pub figures : List ℕ → List ℕ → List ℤ → ℤ → ℕ → Figures
+figures a s h v x = record { adds = a; stars = s; heads = h; sum = v; index = x }
 
-abbrev pub starsHead : List ℕ
-starsHead = ascii "stars "
+-- ---- sections
+-- a section: "its name", and "the values" as they are printed
+pub record Section : Type 0 where
+  pub name : List ℕ
+  pub values : List (List ℕ)
 
-abbrev pub headsHead : List ℕ
-headsHead = ascii "heads "
+-- "numbers .. as in a sheet", and signed ones
+abbrev pub numbers : String → List ℕ → Section
+numbers name l = record { name = ascii name; values = map text l }
 
-abbrev pub sumHead : List ℕ
-sumHead = ascii "sum "
+abbrev pub integers : String → List ℤ → Section
+integers name l = record { name = ascii name; values = map signed l }
 
-abbrev pub indexHead : List ℕ
-indexHead = ascii "index "
+-- the sections of an answer. "Additions, starred columns and heads stand in row or column order."
+abbrev pub sections : Figures → List Section
+sections f =
+    numbers "adds" (f .adds)
+    ∷ numbers "stars" (f .stars)
+    ∷ integers "heads" (f .heads)
+    ∷ integers "sum" (f .sum ∷ [])
+    ∷ numbers "index" (f .index ∷ [])
+    ∷ []
 
-abbrev pub refusedHead : List ℕ
-refusedHead = ascii "refused "
+-- "Each section is a line with its name and its count of values, then the values, one a line, with .. line ends as in a sheet."
+abbrev pub sectionText : Section → List ℕ
+sectionText s = countedLines (s .name ++ blank ∷ []) (s .values)
 
--- the values after a refusal's number, each after a blank
-abbrev pub values : List ℕ → List ℕ
-values [] = []
-values (v ∷ vs) = blank ∷ (text v ++ values vs)
+-- ---- a refusal's one line
+-- its number and what follows it, each after a blank
+abbrev pub spaced : List ℕ → List ℕ
+spaced [] = []
+spaced (v ∷ vs) = blank ∷ (text v ++ spaced vs)
 
--- "Each section is a line with its name and its count of values, then the values, one a line, with numbers and line ends as in a
--- sheet. Additions, starred columns and heads stand in row or column order. A refusal prints one line: `refused 6`, or `refused 10
--- 7` for line 7."
+abbrev pub refusedName : List ℕ
+refusedName = ascii "refused"
+
+-- The sections one after the other. "A refusal prints one line: `refused 6`, or `refused 10 7` for line 7."
 abbrev pub printed : Said Figures → List ℕ
-printed (gives f) =
-    countedLines addsHead (map text (f .adds))
-    ++ (countedLines starsHead (map text (f .stars))
-    ++ (countedLines headsHead (map signed (f .heads))
-    ++ (countedLines sumHead (signed (f .sum) ∷ []) ++ countedLines indexHead (text (f .index) ∷ []))))
-printed (refuses k vs) = ended (refusedHead ++ (text k ++ values vs))
+printed (gives f) = flatMap sectionText (sections f)
+printed (refuses k vs) = ended (refusedName ++ spaced (k ∷ vs))
 
--- a room in which every answer fits (`answers-fit`)
+-- ---- room for every answer (`answers-fit`)
+-- a line: a sign, the ten digits of a number of 32 bits, and a line feed
+abbrev pub line-room : ℕ
+line-room = 12
+
+-- a heading: a name of ten bytes, a blank, a count of four digits, and a line feed
+abbrev pub heading-room : ℕ
+heading-room = 16
+
+-- a section: its heading, and a line for every row
+abbrev pub section-room : ℕ
+section-room = heading-room + rows * line-room
+
+-- ten sections, with some to spare
+abbrev pub sections-most : ℕ
+sections-most = 10
+
 abbrev pub enough : ℕ
-enough = 512
+enough = sections-most * section-room

@@ -1,9 +1,10 @@
 -- What the printing of a sheet's answer promises.
 use mathlib.Core.Path.{_≡_}
 use mathlib.Core.List.{List, [], _∷_}
-use Prim.Native.Nat.{ℕ, _≤_, _<_}
+use Prim.Native.Nat.{ℕ, suc, _≤_, _<_}
 use lib.IntN.{ℤ}
 use lib.ListN.{length, take}
+use Rattle.theory.specs.Limits.{sheet}
 use Rattle.theory.specs.Lists.{nums, ints, columns, StarList}
 use Rattle.theory.specs.Table.{entry}
 use Rattle.theory.specs.Canon.{NoTransversal, Solution, Index}
@@ -12,7 +13,7 @@ use Rattle.sheet.specs.Text.{over}
 use Rattle.sheet.specs.Sheet.{Labelled}
 use Rattle.sheet.specs.Reading.{start, good, Reads, TooLong, WrongLine}
 use Rattle.lettering.specs.Putting.{Puts}
-use Rattle.printing.specs.Printed.{Figures, printed}
+use Rattle.printing.specs.Printed.{Figures, printed, enough}
 use Rattle.printing.specs.declared.Printed.{Printed}
 use Rattle.printing.specs.declared.Printed.the-variants.{Bytes, Refused}
 
@@ -50,17 +51,19 @@ pub data PrintPromise (s room room′ : List ℕ) (r : Said ℕ) : Type 0 where
       → PrintPromise s room room′ r
 
 -- ---- the program
+-- an answer of which P holds stands printed at the front of a room, r is its length, and bytes after it stay
+pub record Prints (P : Said Figures → Type 0) (room room′ : List ℕ) (r : ℕ) : Type 0 where
+  pub said : Said Figures
+  pub holds : P said
+  pub puts : Puts (printed said) room room′ r
+
 -- the first n bytes of a buffer were read of an input: all of it, or as many as the buffer holds
 pub record ReadOf (input buffer : List ℕ) (n : ℕ) : Type 0 where
   pub front : take n buffer ≡ take (length buffer) input
 
--- the printed answer of a sheet stands at the front of a room, r is its length, and bytes after it stay
-pub record Answers (s room room′ : List ℕ) (r : ℕ) : Type 0 where
-  pub said : Said Figures
-  pub says-so : SheetSays s said
-  pub puts : Puts (printed said) room room′ r
-
--- whatever the input, of which the first n bytes of the buffer were read: its printed answer stands at the front of the room. There
--- is no refusal.
+-- The buffer holds one byte more than the longest sheet, and the room is enough. Whatever the input, of which the first n bytes of the
+-- buffer were read: its answer stands printed at the front of the room. There is no refusal.
 pub record InputPromise (buffer : List ℕ) (n : ℕ) (room room′ : List ℕ) (r : ℕ) : Type 0 where
-  pub answers : (input : List ℕ) → ReadOf input buffer n → Answers input room room′ r
+  pub one-more : length buffer ≡ suc sheet
+  pub roomy : length room ≡ enough
+  pub answers : (input : List ℕ) → ReadOf input buffer n → Prints (SheetSays input) room room′ r

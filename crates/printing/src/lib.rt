@@ -1,13 +1,12 @@
-ghost use mathlib.Core.List.{map};
-ghost use Prim.Native.Nat.{_+_, _*_, _<_, _≤_};
+ghost use mathlib.Core.List.{[]};
+ghost use Prim.Native.Nat.{_≤_};
 ghost use lib.ListN.{length};
-ghost use Rattle.theory.specs.Limits.{rows};
 ghost use Rattle.orders.specs.Refusals.{gives, refusal};
-ghost use Rattle.sheet.specs.Text.{text, signed, ended};
-ghost use Rattle.sheet.specs.Sheet.{endedLines, countedLines};
-ghost use Rattle.printing.specs.Printed.{printed};
-ghost use Rattle.printing.specs.Parts.{PutsShort, part, whole, Follows, Largest, Tabled, Prints};
-ghost use Rattle.printing.specs.Promise.{says, TableSays, SheetSays, PrintPromise, InputPromise};
+ghost use Rattle.handed.specs.Handed.{Sound};
+ghost use Rattle.lettering.specs.Putting.{Puts};
+ghost use Rattle.printing.specs.Printed.{figures, printed, enough};
+ghost use Rattle.printing.specs.Parts.{numberLines, integerLines, numberSection, integerSection, sectionAt, SectionFits, Largest};
+ghost use Rattle.printing.specs.Promise.{says, TableSays, SheetSays, Prints, PrintPromise, InputPromise};
 use canon::Answer;
 use canon::solve;
 use lettering::put;
@@ -24,14 +23,23 @@ use reader::Read;
 use reader::read_sheet;
 use sheet::FEED;
 
-// A room in which every answer fits: `answers-fit` in proofs/Fits.
-pub const ENOUGH: usize = 512;
-
 // As much of an input as tells its answer: one byte more than the longest sheet, so that a longer one is known.
 pub const INPUT: usize = SHEET + 1;
 
-// The page on which an answer is made up, with room for numbers of any size.
-const PAGE: usize = 2000;
+// The sections of an answer.
+const SECTIONS: usize = 5;
+
+// The room of a line: a sign, the ten digits of a number of 32 bits, and a line feed.
+const LINE_ROOM: usize = 12;
+
+// The room of a heading: a name of ten bytes, a blank, a count of four digits, and a line feed.
+const HEADING_ROOM: usize = 16;
+
+// The sections for which there is room.
+const SECTIONS_MOST: usize = 10;
+
+// A room in which every answer fits (`answers-fit` in proofs/Fits): each section is a heading and a line for every row.
+pub const ENOUGH: usize = SECTIONS_MOST * (HEADING_ROOM + ROWS * LINE_ROOM);
 
 // The length of the printed answer, or the refusal.
 pub enum Printed {
@@ -39,86 +47,109 @@ pub enum Printed {
     Refused(Refusal),
 }
 
-// A number and a line feed. Rules out a line that is not ended, and one longer than its room.
-fn put_number_line(v: u32, out: &mut [u8]) -> usize
-    requires { ⌜ 12 ≤ length (now out) ⌝ }
-    ensures { λ r. ⌜ PutsShort 12 (ended (text v)) (now (out .entry)) (now (out .exit)) r ⌝ }
-{
-    put_count(v as usize, FEED, out)
-}
-
-// A signed number and a line feed. Rules out the same.
-fn put_signed_line(v: i32, out: &mut [u8]) -> usize
-    requires { ⌜ 12 ≤ length (now out) ⌝ }
-    ensures { λ r. ⌜ PutsShort 12 (ended (signed v)) (now (out .entry)) (now (out .exit)) r ⌝ }
-{
-    put_value_line(v, out)
-}
-
-// Numbers, one a line. Rules out a number left out, or two on a line.
+// Numbers, one a line. Rules out a number left out, two on a line, and a byte changed behind them.
 fn put_number_lines(values: &[u32], out: &mut [u8]) -> usize
-    requires { ⌜ 12 * length (now values) ≤ length (now out) ⌝ }
-    ensures { λ r. ⌜ PutsShort (12 * length (now (values .entry))) (endedLines (map text (now (values .entry)))) (now (out .entry)) (now (out .exit)) r ⌝ }
+    requires { ⌜ length (numberLines (now values)) ≤ length (now out) ⌝ }
+    ensures { λ r. ⌜ Puts (numberLines (now (values .entry))) (now (out .entry)) (now (out .exit)) r ⌝ }
 {
     let mut at: usize = 0;
     let mut k = 0;
     while k < values.len() {
-        at += put_number_line(values[k], &mut out[at..]);
+        at += put_count(values[k] as usize, FEED, &mut out[at..]);
         k += 1;
     }
     at
 }
 
 // Signed numbers, one a line. Rules out the same.
-fn put_signed_lines(values: &[i32], out: &mut [u8]) -> usize
-    requires { ⌜ 12 * length (now values) ≤ length (now out) ⌝ }
-    ensures { λ r. ⌜ PutsShort (12 * length (now (values .entry))) (endedLines (map signed (now (values .entry)))) (now (out .entry)) (now (out .exit)) r ⌝ }
+fn put_integer_lines(values: &[i32], out: &mut [u8]) -> usize
+    requires { ⌜ length (integerLines (now values)) ≤ length (now out) ⌝ }
+    ensures { λ r. ⌜ Puts (integerLines (now (values .entry))) (now (out .entry)) (now (out .exit)) r ⌝ }
 {
     let mut at: usize = 0;
     let mut k = 0;
     while k < values.len() {
-        at += put_signed_line(values[k], &mut out[at..]);
+        at += put_value_line(values[k], &mut out[at..]);
         k += 1;
     }
     at
 }
 
-// A section of numbers in the room. Rules out another count than that of the lines.
-fn put_number_section(name: &[u8], values: &[u32], out: &mut [u8]) -> usize
-    requires { ⌜ (length (now name) ≤ 8) × (length (now values) ≤ rows) × (part ≤ length (now out)) ⌝ }
-    ensures { λ r. ⌜ PutsShort part (countedLines (now (name .entry)) (map text (now (values .entry)))) (now (out .entry)) (now (out .exit)) r ⌝ }
+// A section of numbers. Rules out another count than that of the lines.
+fn put_numbers(head: &[u8], values: &[u32], out: &mut [u8]) -> usize
+    requires { ⌜ length (numberSection (now head) (now values)) ≤ length (now out) ⌝ }
+    ensures { λ r. ⌜ Puts (numberSection (now (head .entry)) (now (values .entry))) (now (out .entry)) (now (out .exit)) r ⌝ }
 {
-    let a = put_heading(name, values.len(), out);
+    let a = put_heading(head, values.len(), out);
     let b = put_number_lines(values, &mut out[a..]);
     a + b
 }
 
-// A section of signed numbers in the room. Rules out the same.
-fn put_signed_section(name: &[u8], values: &[i32], out: &mut [u8]) -> usize
-    requires { ⌜ (length (now name) ≤ 8) × (length (now values) ≤ rows) × (part ≤ length (now out)) ⌝ }
-    ensures { λ r. ⌜ PutsShort part (countedLines (now (name .entry)) (map signed (now (values .entry)))) (now (out .entry)) (now (out .exit)) r ⌝ }
+// A section of signed numbers. Rules out the same.
+fn put_integers(head: &[u8], values: &[i32], out: &mut [u8]) -> usize
+    requires { ⌜ length (integerSection (now head) (now values)) ≤ length (now out) ⌝ }
+    ensures { λ r. ⌜ Puts (integerSection (now (head .entry)) (now (values .entry))) (now (out .entry)) (now (out .exit)) r ⌝ }
 {
-    let a = put_heading(name, values.len(), out);
-    let b = put_signed_lines(values, &mut out[a..]);
+    let a = put_heading(head, values.len(), out);
+    let b = put_integer_lines(values, &mut out[a..]);
     a + b
 }
 
-// A section of numbers after the first bytes of a page; where it ends. Rules out a byte of the sections before it changed.
-fn add_numbers(name: &[u8], values: &[u32], at: usize, page: &mut [u8]) -> usize
-    requires { ⌜ (length (now name) ≤ 8) × (length (now values) ≤ rows) × (at + part ≤ length (now page)) ⌝ }
-    ensures { λ r. ⌜ Follows (countedLines (now (name .entry)) (map text (now (values .entry)))) at (now (page .entry)) (now (page .exit)) r ⌝ }
+// Section k of an answer. Rules out sections in another order, and one list under another's name.
+fn put_section(
+    k: usize,
+    adds: &[u32],
+    stars: &[u32],
+    heads: &[i32],
+    sum: i32,
+    index: u32,
+    out: &mut [u8],
+) -> usize
+    requires { ⌜ SectionFits k (figures (now adds) (now stars) (now heads) sum index) (now out) ⌝ }
+    ensures { λ r. ⌜ Puts (sectionAt k (figures (now (adds .entry)) (now (stars .entry)) (now (heads .entry)) sum index))
+        (now (out .entry)) (now (out .exit)) r ⌝ }
 {
-    let k = put_number_section(name, values, &mut page[at..]);
-    at + k
+    match k {
+        0 => put_numbers(b"adds ", adds, out),
+        1 => put_numbers(b"stars ", stars, out),
+        2 => put_integers(b"heads ", heads, out),
+        3 => put_integers(b"sum ", &[sum; 1], out),
+        _ => put_numbers(b"index ", &[index; 1], out),
+    }
 }
 
-// A section of signed numbers after the first bytes of a page; where it ends. Rules out the same.
-fn add_signed(name: &[u8], values: &[i32], at: usize, page: &mut [u8]) -> usize
-    requires { ⌜ (length (now name) ≤ 8) × (length (now values) ≤ rows) × (at + part ≤ length (now page)) ⌝ }
-    ensures { λ r. ⌜ Follows (countedLines (now (name .entry)) (map signed (now (values .entry)))) at (now (page .entry)) (now (page .exit)) r ⌝ }
+// The figures of a table, section after section, each in the room that those before it left. Rules out a section left out.
+fn put_figures(
+    adds: &[u32],
+    stars: &[u32],
+    heads: &[i32],
+    sum: i32,
+    index: u32,
+    page: &mut [u8],
+) -> usize
+    requires { ⌜ length (printed (gives (figures (now adds) (now stars) (now heads) sum index))) ≤ length (now page) ⌝ }
+    ensures { λ r. ⌜ Puts (printed (gives (figures (now (adds .entry)) (now (stars .entry)) (now (heads .entry)) sum index)))
+        (now (page .entry)) (now (page .exit)) r ⌝ }
 {
-    let k = put_signed_section(name, values, &mut page[at..]);
-    at + k
+    let mut at: usize = 0;
+    let mut k = 0;
+    while k < SECTIONS {
+        at += put_section(k, adds, stars, heads, sum, index, &mut page[at..]);
+        k += 1;
+    }
+    at
+}
+
+// A refusal. Rules out a wrong line without its number, and a line number behind another refusal.
+fn put_refusal(r: Refusal, page: &mut [u8]) -> usize
+    requires { ⌜ length (printed (refusal r)) ≤ length (now page) ⌝ }
+    ensures { λ k. ⌜ Puts (printed (refusal r)) (now (page .entry)) (now (page .exit)) k ⌝ }
+{
+    if let Refusal::Line(line) = r {
+        return put_heading(b"refused 10 ", line, page);
+    }
+    let code = number(r) as usize;
+    put_heading(b"refused ", code, page)
 }
 
 // The index figure: the largest addition. Rules out a number that is no addition, and one that an addition exceeds.
@@ -137,42 +168,9 @@ fn largest(adds: &[u32]) -> u32
     most
 }
 
-// The figures of a table on the page, section by section. Rules out sections in another order, and one list under another's name.
-fn put_figures(
-    adds: &[u32],
-    stars: &[u32],
-    heads: &[i32],
-    sum: i32,
-    index: u32,
-    page: &mut [u8],
-) -> usize
-    requires { ⌜ (length (now adds) ≤ rows) × (length (now stars) ≤ rows) × (length (now heads) ≤ rows) × (whole ≤ length (now page)) ⌝ }
-    ensures { λ r. ⌜ PutsShort whole (printed (gives (record { adds = now (adds .entry); stars = now (stars .entry); heads = now (heads .entry); sum = sum; index = index }))) (now (page .entry)) (now (page .exit)) r ⌝ }
-{
-    let total = [sum; 1];
-    let figure = [index; 1];
-    let mut at = add_numbers(b"adds ", adds, 0, page);
-    at = add_numbers(b"stars ", stars, at, page);
-    at = add_signed(b"heads ", heads, at, page);
-    at = add_signed(b"sum ", &total, at, page);
-    add_numbers(b"index ", &figure, at, page)
-}
-
-// A refusal on the page. Rules out a wrong line without its number, and a line number behind another refusal.
-fn put_refusal(r: Refusal, page: &mut [u8]) -> usize
-    requires { ⌜ whole ≤ length (now page) ⌝ }
-    ensures { λ k. ⌜ PutsShort whole (printed (refusal r)) (now (page .entry)) (now (page .exit)) k ⌝ }
-{
-    if let Refusal::Line(line) = r {
-        return put_heading(b"refused 10 ", line, page);
-    }
-    let code = number(r) as usize;
-    put_heading(b"refused ", code, page)
-}
-
-// The answer of a table on the page. Rules out figures where no complete transversal exists, and a refusal where one does.
+// The answer of a table. Rules out figures where no complete transversal exists, and a refusal where one does.
 fn put_table(n: usize, table: &[i16], page: &mut [u8]) -> usize
-    requires { ⌜ (Tabled n (now table)) × (whole ≤ length (now page)) ⌝ }
+    requires { ⌜ (Sound n (now table) []) × (enough ≤ length (now page)) ⌝ }
     ensures { λ r. ⌜ Prints (TableSays n (now (table .entry))) (now (page .entry)) (now (page .exit)) r ⌝ }
 {
     let mut adds = [0u32; ROWS];
@@ -188,9 +186,9 @@ fn put_table(n: usize, table: &[i16], page: &mut [u8]) -> usize
     }
 }
 
-// The answer of a sheet on the page. Rules out figures of another table than the sheet's.
+// The answer of a sheet. Rules out figures of another table than the sheet's.
 fn put_answer(sheet: &[u8], page: &mut [u8]) -> usize
-    requires { ⌜ whole ≤ length (now page) ⌝ }
+    requires { ⌜ enough ≤ length (now page) ⌝ }
     ensures { λ r. ⌜ Prints (SheetSays (now (sheet .entry))) (now (page .entry)) (now (page .exit)) r ⌝ }
 {
     let mut table = [0i16; PLACES];
@@ -209,7 +207,7 @@ fn put_answer(sheet: &[u8], page: &mut [u8]) -> usize
 pub fn print_answer(sheet: &[u8], out: &mut [u8]) -> Printed
     ensures { λ r. ⌜ PrintPromise (now (sheet .entry)) (now (out .entry)) (now (out .exit)) (says r) ⌝ }
 {
-    let mut page = [0u8; PAGE];
+    let mut page = [0u8; ENOUGH];
     let k = put_answer(sheet, &mut page);
     if out.len() < k {
         return Printed::Refused(Refusal::Room);
@@ -229,8 +227,6 @@ pub fn print_input(input: &[u8; INPUT], n: usize, room: &mut [u8; ENOUGH]) -> us
     if INPUT < n {
         end = INPUT;
     }
-    let mut page = [0u8; PAGE];
     let read: &[u8] = input;
-    let k = put_answer(&read[..end], &mut page);
-    put(&page[..k], room)
+    put_answer(&read[..end], room)
 }

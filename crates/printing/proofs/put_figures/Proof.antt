@@ -1,74 +1,79 @@
--- Five sections, each after those before it. Assumes nothing.
+-- Section after section, each in the room that those before it left. Assumes nothing.
 use borrow.Author.Needs.{needs}
-use Rattle.printing.proofs.Pages.{figures-put, follows-same}
-use mathlib.Core.Path.{ap}
-use mathlib.Core.List.{[], _∷_}
+use native.Mathlib.Omega.{arith}
+use Prim.Native.Nat.{_-_}
+use mathlib.Core.List.{[]}
+use lib.ListN.{length}
 use mir.Facts.{toZ-ofZ}
-use Rattle.sheet.specs.Text.{signed}
-use Rattle.sheet.specs.Sheet.{countedLines}
-use Rattle.printing.specs.Printed.{sumHead}
+use mir.Syntax.{w32}
+use mir.Val.{toZ}
+use Rattle.printing.specs.Printed.{Section, figures, numbers, sections, sectionText}
+use Rattle.printing.proofs.Joining.{Joined, joined-none, joined-length, joined-at, next-room, next-end, joined-next, joined-all}
 use Rattle.printing.proofs.put_figures.Statement.{statement}
 use Rattle.printing.proofs.put_figures.Tie as tie
 
-slice-aggregate-add-numbers : tie.Need-slice-aggregate-add-numbers
-slice-aggregate-add-numbers c = search needs
+-- past the last section
+abbrev none : Section
+none = numbers "" []
 
-add-numbers-requires : tie.Need-add-numbers-requires
-add-numbers-requires c κs = search needs
+abbrev Inv-loop : tie.InvT-loop
+Inv-loop adds stars heads sum index page₀ at₀ k₀ page at k =
+    Joined sectionText (sections (figures adds stars heads (toZ w32 sum) index)) page₀ page at k
 
-slice-aggregate-add-numbers-2 : tie.Need-slice-aggregate-add-numbers-2
-slice-aggregate-add-numbers-2 c = search needs
+abbrev μ-loop : tie.MeasureT-loop
+μ-loop adds stars heads sum index page₀ at₀ k₀ page at k = length (sections (figures adds stars heads (toZ w32 sum) index)) - k
 
-add-numbers-requires-2 : tie.Need-add-numbers-requires-2
-add-numbers-requires-2 c κs = search needs
+loop-holds : tie.Need-loop-holds Inv-loop μ-loop
+loop-holds c =
+    let s = c .before .before .before in
+    rw (toZ-ofZ (s .fits .sum)) (joined-none sectionText _ (s .args .page .now) (s .pre))
 
-slice-aggregate-add-signed : tie.Need-slice-aggregate-add-signed
-slice-aggregate-add-signed c = search needs
+sub-put-section : tie.Need-sub-put-section Inv-loop μ-loop
+sub-put-section c = joined-at (c .before .loop .inv)
 
-add-signed-requires : tie.Need-add-signed-requires
-add-signed-requires c κs = search needs
+part-put-section-start : tie.Need-part-put-section-start Inv-loop μ-loop
+part-put-section-start c = joined-at (c .before .loop .inv)
 
-slice-aggregate-add-signed-2 : tie.Need-slice-aggregate-add-signed-2
-slice-aggregate-add-signed-2 c = search needs
+part-put-section-end : tie.Need-part-put-section-end Inv-loop μ-loop
+part-put-section-end c = search needs
 
-slice-aggregate-add-signed-3 : tie.Need-slice-aggregate-add-signed-3
-slice-aggregate-add-signed-3 c = search needs
+put-section-requires : tie.Need-put-section-requires Inv-loop μ-loop
+put-section-requires c κs = (omega arith, next-room (c .before .before .loop .inv) none (omega arith))
 
-add-signed-requires-2 : tie.Need-add-signed-requires-2
-add-signed-requires-2 c κs = search needs
+add-at : tie.Need-add-at Inv-loop μ-loop
+add-at c = omega (arith, next-end (c .before .before .before .before .before .loop .inv) none (omega arith) (c .before .before .put-section .ensures))
 
-slice-aggregate-add-numbers-3 : tie.Need-slice-aggregate-add-numbers-3
-slice-aggregate-add-numbers-3 c = search needs
+add-k : tie.Need-add-k Inv-loop μ-loop
+add-k c = search needs
 
-slice-aggregate-add-numbers-4 : tie.Need-slice-aggregate-add-numbers-4
-slice-aggregate-add-numbers-4 c = search needs
+loop-less : tie.Need-loop-less Inv-loop μ-loop
+loop-less c = search needs
 
-add-numbers-requires-3 : tie.Need-add-numbers-requires-3
-add-numbers-requires-3 c κs = search needs
+loop-again : tie.Need-loop-again Inv-loop μ-loop
+loop-again c = joined-next (c .before .before .before .before .before .loop .inv) none (omega arith) (c .before .before .put-section .ensures)
 
-same-length : tie.Need-same-length
-same-length c = search needs
+same-length : tie.Need-same-length Inv-loop μ-loop
+same-length c = joined-length (c .before .loop .inv)
 
-returns : tie.Need-returns
+returns : tie.Need-returns Inv-loop μ-loop
 returns c =
-    let s = c .before .before .before .before .before .before .before .before .before .before .before .before .before .before .before .before .before .before .before .before .before .before .before .before .before .before .before .before .before .before in
-    figures-put (record { adds = s .args .adds .now; stars = s .args .stars .now; heads = s .args .heads .now; sum = s .args .sum; index = s .args .index }) (s .args .page .now) _ _ _ _ _ (c .before .before .before .before .before .before .before .before .before .before .before .before .before .before .before .before .before .before .before .before .before .before .before .before .add-numbers .result) (c .before .before .before .before .before .before .before .before .before .before .before .before .before .before .before .before .before .before .before .add-numbers2 .result) (c .before .before .before .before .before .before .before .before .before .before .before .before .before .before .add-signed .result) (c .before .before .before .before .before .before .before .before .add-signed2 .result) (c .before .before .add-numbers3 .result) (c .before .before .before .before .before .before .before .before .before .before .before .before .before .before .before .before .before .before .before .before .before .before .before .before .add-numbers .ensures) (c .before .before .before .before .before .before .before .before .before .before .before .before .before .before .before .before .before .before .before .add-numbers2 .ensures) (c .before .before .before .before .before .before .before .before .before .before .before .before .before .before .add-signed .ensures) (follows-same _ (countedLines sumHead (signed (s .args .sum) ∷ [])) (c .before .before .before .before .before .before .before .before .before .before .before .before .before .before .add-signed .result) _ _ (c .before .before .before .before .before .before .before .before .add-signed2 .result) (ap (λ x. countedLines sumHead (signed x ∷ [])) (toZ-ofZ (s .fits .sum))) (c .before .before .before .before .before .before .before .before .add-signed2 .ensures)) (c .before .before .add-numbers3 .ensures)
+    let s = c .before .before .before .before .before in
+    rw (toZ-ofZ (s .fits .sum)) at (joined-all (c .before .loop .inv) (omega arith))
 
 pub put-figures-spec : {M : Type 1} → statement M
 put-figures-spec =
     tie.close
     (tie.spec
-    slice-aggregate-add-numbers
-    add-numbers-requires
-    slice-aggregate-add-numbers-2
-    add-numbers-requires-2
-    slice-aggregate-add-signed
-    add-signed-requires
-    slice-aggregate-add-signed-2
-    slice-aggregate-add-signed-3
-    add-signed-requires-2
-    slice-aggregate-add-numbers-3
-    slice-aggregate-add-numbers-4
-    add-numbers-requires-3
+    Inv-loop
+    μ-loop
+    loop-holds
+    sub-put-section
+    part-put-section-start
+    part-put-section-end
+    put-section-requires
+    add-at
+    add-k
+    loop-less
+    loop-again
     same-length
     returns)

@@ -1,46 +1,118 @@
--- The table is solved in arrays of 32 places, and the front of each is printed. Assumes nothing.
+-- The table is solved in arrays that are long enough, and the front of each is printed. Assumes nothing.
 use borrow.Author.Needs.{needs}
 use native.Mathlib.Omega.{arith}
-use Prim.Native.Nat.{_≤_}
-use mathlib.Core.Path.{refl, sym, ap}
-use mathlib.Core.List.{_++_}
-use lib.IntN.{pos}
-use lib.ListN.{take, drop, replicate}
+use Prim.Native.Nat.{ℕ, _≤_}
+use mathlib.Core.Path.{_≡_, sym}
+use mathlib.Core.List.{List, _++_}
+use lib.IntN.{ℤ, pos}
+use lib.ListN.{length, take, drop, replicate}
 use lib.Seq.{length-take-le}
-use mir.Syntax.{w32}
-use mir.Val.{SFits}
 use mir.Facts.{toZ-ofZ}
-use Rattle.orders.specs.Refusals.{gives}
-use Rattle.printing.specs.Printed.{printed}
-use Rattle.printing.specs.Parts.{whole}
-use Rattle.printing.proofs.Pages.{short-same}
-use Rattle.printing.proofs.Saying.{figures, solved-lengths, solved-says, refused-says, front-is, front-inside}
+use mir.Syntax.{w32}
+use mir.Val.{SFits, ofZ, toZ}
+use Rattle.theory.specs.Limits.{rows}
+use Rattle.orders.specs.Refusals.{gives, refusal}
+use Rattle.handed.proofs.Basics.{sized}
+use Rattle.printing.specs.Printed.{figures}
+use Rattle.printing.specs.Promise.{TableSays}
+use Rattle.printing.proofs.Fits.{table-fits}
+use Rattle.printing.proofs.Saying.{Sized, solved-sized, front-says, refused-says, front-inside}
 use Rattle.printing.proofs.put_table.Statement.{statement}
 use Rattle.printing.proofs.put_table.Tie as tie
 
+-- what the arrays hold before the call, and behind their fronts after it
+abbrev zeros : List ℕ
+zeros = replicate rows 0
+
+abbrev nulls : List ℤ
+nulls = replicate rows (pos 0)
+
+few : (s : tie.Start) → s .args .n ≤ rows
+few s = sized (s .pre .0 .in-size) .1
+
+-- the front of an array has the table's size
+zeros-long : (s : tie.Start) → length (take (s .args .n) zeros) ≡ s .args .n
+zeros-long s = length-take-le (s .args .n) zeros (few s)
+
+nulls-long : (s : tie.Start) → length (take (s .args .n) nulls) ≡ s .args .n
+nulls-long s = length-take-le (s .args .n) nulls (few s)
+
+lent : (s : tie.Start) → Sized (s .args .n) (take (s .args .n) zeros) (take (s .args .n) zeros) (take (s .args .n) nulls)
+lent s = record { adds-long = zeros-long s; stars-long = zeros-long s; heads-long = nulls-long s }
+
+-- and still has it when the solver has written there
+abbrev start : tie.After-solve → tie.Start
+start c = c .before .before .before .before .before
+
+written : (c : tie.After-solve) → let q = c .solve .last in Sized (start c .args .n) (q .1 .1 .0) (q .1 .1 .1 .0) (q .1 .1 .1 .1 .0)
+written c = solved-sized (start c .pre .0) (lent (start c)) (c .solve .ensures)
+
+-- the arrays then
+abbrev adds : tie.After-solve → List ℕ
+adds c = c .solve .last .1 .1 .0 ++ drop (start c .args .n) zeros
+
+abbrev stars : tie.After-solve → List ℕ
+stars c = c .solve .last .1 .1 .1 .0 ++ drop (start c .args .n) zeros
+
+abbrev heads : tie.After-solve → List ℤ
+heads c = c .solve .last .1 .1 .1 .1 .0 ++ drop (start c .args .n) nulls
+
+adds-inside : (c : tie.After-solve) → start c .args .n ≤ length (adds c)
+adds-inside c = front-inside (c .solve .last .1 .1 .0) (drop (start c .args .n) zeros) (written c .adds-long)
+
+stars-inside : (c : tie.After-solve) → start c .args .n ≤ length (stars c)
+stars-inside c = front-inside (c .solve .last .1 .1 .1 .0) (drop (start c .args .n) zeros) (written c .stars-long)
+
+heads-inside : (c : tie.After-solve) → start c .args .n ≤ length (heads c)
+heads-inside c = front-inside (c .solve .last .1 .1 .1 .1 .0) (drop (start c .args .n) nulls) (written c .heads-long)
+
+-- their fronts are the figures of the table
+adds-front : (c : tie.After-solve) → start c .args .n ≡ length (take (start c .args .n) (adds c))
+adds-front c = sym (length-take-le (start c .args .n) (adds c) (adds-inside c))
+
+stars-front : (c : tie.After-solve) → start c .args .n ≡ length (take (start c .args .n) (stars c))
+stars-front c = sym (length-take-le (start c .args .n) (stars c) (stars-inside c))
+
+heads-front : (c : tie.After-solve) → start c .args .n ≡ length (take (start c .args .n) (heads c))
+heads-front c = sym (length-take-le (start c .args .n) (heads c) (heads-inside c))
+
+abbrev sum : tie.After-largest → ℤ
+sum c = c .before .before .before .answer .given .0 .0
+
+found : (c : tie.After-largest) → let q = c .before .before .before .before .before .before .before .before in let n = start q .args .n in
+    TableSays n (start q .args .table .now)
+    (gives (figures (take n (adds q)) (take n (stars q)) (take n (heads q)) (toZ w32 (ofZ w32 (sum c))) (c .largest .result)))
+found c =
+    let q = c .before .before .before .before .before .before .before .before in
+    let f : SFits w32 (sum c) = search needs in
+    rw (toZ-ofZ f)
+    (front-says (start q .pre .0) (lent (start q)) (q .solve .ensures) _ _ _ _ _ (c .before .before .before .answer .given .1)
+    (c .largest .ensures))
+
+-- or there are none
+none : (c : tie.After-answer2) → let s = start (c .before .before .before .before .before) in
+    TableSays (s .args .n) (s .args .table .now) (refusal (c .answer2 .given .0 .0))
+none c =
+    let q = c .before .before .before .before .before in
+    refused-says (start q .pre .0) (lent (start q)) (q .solve .ensures) _ (c .answer2 .given .1)
+
 array-borrow-prefix-adds : tie.Need-array-borrow-prefix-adds
-array-borrow-prefix-adds c = search needs
+array-borrow-prefix-adds c = few (c .before)
 
 slice-aggregate-solve : tie.Need-slice-aggregate-solve
-slice-aggregate-solve c =
-    let s = c .before .before in
-    sym (length-take-le (s .args .n) _ (omega (arith, s .pre .0 .few)))
+slice-aggregate-solve c = sym (zeros-long (c .before .before))
 
 array-borrow-prefix-stars : tie.Need-array-borrow-prefix-stars
-array-borrow-prefix-stars c = search needs
+array-borrow-prefix-stars c = few (c .before .before)
 
 slice-aggregate-solve-2 : tie.Need-slice-aggregate-solve-2
-slice-aggregate-solve-2 c =
-    let s = c .before .before .before in
-    sym (length-take-le (s .args .n) _ (omega (arith, s .pre .0 .few)))
+slice-aggregate-solve-2 c = sym (zeros-long (c .before .before .before))
 
 array-borrow-prefix-heads : tie.Need-array-borrow-prefix-heads
-array-borrow-prefix-heads c = search needs
+array-borrow-prefix-heads c = few (c .before .before .before)
 
 slice-aggregate-solve-3 : tie.Need-slice-aggregate-solve-3
-slice-aggregate-solve-3 c =
-    let s = c .before .before .before .before in
-    sym (length-take-le (s .args .n) _ (omega (arith, s .pre .0 .few)))
+slice-aggregate-solve-3 c = sym (nulls-long (c .before .before .before .before))
 
 solve-requires : tie.Need-solve-requires
 solve-requires c κs = search needs
@@ -49,121 +121,58 @@ enum-known-answer : tie.Need-enum-known-answer
 enum-known-answer c = search needs
 
 array-share-prefix-adds : tie.Need-array-share-prefix-adds
-array-share-prefix-adds c =
-    let s = c .before .before .before .before .before .before .before .before .before .before .before in
-    let few : s .args .n ≤ 32 = omega (arith, s .pre .0 .few) in
-    let q = c .before .before .before .before .before .before .solve in
-    let l = solved-lengths (s .args .n) (s .args .table .now) (s .pre .0) _ _ _ (length-take-le (s .args .n) (replicate 32 0) few) (length-take-le (s .args .n) (replicate 32 0) few) (length-take-le (s .args .n) (replicate 32 (pos 0)) few) (q .result) _ _ _ (q .ensures) in
-    front-inside (q .last .1 .1 .0) (replicate 32 0) (s .args .n) (l .0)
+array-share-prefix-adds c = adds-inside (c .before .before .before .before .before .before)
 
 slice-aggregate-largest : tie.Need-slice-aggregate-largest
-slice-aggregate-largest c =
-    let s = c .before .before .before .before .before .before .before .before .before .before .before .before in
-    let few : s .args .n ≤ 32 = omega (arith, s .pre .0 .few) in
-    let q = c .before .before .before .before .before .before .before .solve in
-    let l = solved-lengths (s .args .n) (s .args .table .now) (s .pre .0) _ _ _ (length-take-le (s .args .n) (replicate 32 0) few) (length-take-le (s .args .n) (replicate 32 0) few) (length-take-le (s .args .n) (replicate 32 (pos 0)) few) (q .result) _ _ _ (q .ensures) in
-    sym (length-take-le (s .args .n) ((q .last .1 .1 .0) ++ drop (s .args .n) (replicate 32 0)) (front-inside (q .last .1 .1 .0) (replicate 32 0) (s .args .n) (l .0)))
+slice-aggregate-largest c = adds-front (c .before .before .before .before .before .before .before)
 
 largest-requires : tie.Need-largest-requires
 largest-requires c κs =
-    let s = c .before .before .before .before .before .before .before .before .before .before .before .before in
-    let few : s .args .n ≤ 32 = omega (arith, s .pre .0 .few) in
-    let q = c .before .before .before .before .before .before .before .solve in
-    let l = solved-lengths (s .args .n) (s .args .table .now) (s .pre .0) _ _ _ (length-take-le (s .args .n) (replicate 32 0) few) (length-take-le (s .args .n) (replicate 32 0) few) (length-take-le (s .args .n) (replicate 32 (pos 0)) few) (q .result) _ _ _ (q .ensures) in
-    omega (arith, s .pre .0 .some, length-take-le (s .args .n) ((q .last .1 .1 .0) ++ drop (s .args .n) (replicate 32 0)) (front-inside (q .last .1 .1 .0) (replicate 32 0) (s .args .n) (l .0)))
+    let q = c .before .before .before .before .before .before .before in
+    omega (arith, adds-front q, sized (start q .pre .0 .in-size) .0)
 
 array-share-prefix-adds-2 : tie.Need-array-share-prefix-adds-2
-array-share-prefix-adds-2 c =
-    let s = c .before .before .before .before .before .before .before .before .before .before .before .before .before in
-    let few : s .args .n ≤ 32 = omega (arith, s .pre .0 .few) in
-    let q = c .before .before .before .before .before .before .before .before .solve in
-    let l = solved-lengths (s .args .n) (s .args .table .now) (s .pre .0) _ _ _ (length-take-le (s .args .n) (replicate 32 0) few) (length-take-le (s .args .n) (replicate 32 0) few) (length-take-le (s .args .n) (replicate 32 (pos 0)) few) (q .result) _ _ _ (q .ensures) in
-    front-inside (q .last .1 .1 .0) (replicate 32 0) (s .args .n) (l .0)
+array-share-prefix-adds-2 c = adds-inside (c .before .before .before .before .before .before .before .before)
 
 slice-aggregate-put-figures : tie.Need-slice-aggregate-put-figures
-slice-aggregate-put-figures c =
-    let s = c .before .before .before .before .before .before .before .before .before .before .before .before .before .before in
-    let few : s .args .n ≤ 32 = omega (arith, s .pre .0 .few) in
-    let q = c .before .before .before .before .before .before .before .before .before .solve in
-    let l = solved-lengths (s .args .n) (s .args .table .now) (s .pre .0) _ _ _ (length-take-le (s .args .n) (replicate 32 0) few) (length-take-le (s .args .n) (replicate 32 0) few) (length-take-le (s .args .n) (replicate 32 (pos 0)) few) (q .result) _ _ _ (q .ensures) in
-    sym (length-take-le (s .args .n) ((q .last .1 .1 .0) ++ drop (s .args .n) (replicate 32 0)) (front-inside (q .last .1 .1 .0) (replicate 32 0) (s .args .n) (l .0)))
+slice-aggregate-put-figures c = adds-front (c .before .before .before .before .before .before .before .before .before)
 
 array-share-prefix-stars : tie.Need-array-share-prefix-stars
-array-share-prefix-stars c =
-    let s = c .before .before .before .before .before .before .before .before .before .before .before .before .before .before in
-    let few : s .args .n ≤ 32 = omega (arith, s .pre .0 .few) in
-    let q = c .before .before .before .before .before .before .before .before .before .solve in
-    let l = solved-lengths (s .args .n) (s .args .table .now) (s .pre .0) _ _ _ (length-take-le (s .args .n) (replicate 32 0) few) (length-take-le (s .args .n) (replicate 32 0) few) (length-take-le (s .args .n) (replicate 32 (pos 0)) few) (q .result) _ _ _ (q .ensures) in
-    front-inside (q .last .1 .1 .1 .0) (replicate 32 0) (s .args .n) (l .1)
+array-share-prefix-stars c = stars-inside (c .before .before .before .before .before .before .before .before .before)
 
 slice-aggregate-put-figures-2 : tie.Need-slice-aggregate-put-figures-2
-slice-aggregate-put-figures-2 c =
-    let s = c .before .before .before .before .before .before .before .before .before .before .before .before .before .before .before in
-    let few : s .args .n ≤ 32 = omega (arith, s .pre .0 .few) in
-    let q = c .before .before .before .before .before .before .before .before .before .before .solve in
-    let l = solved-lengths (s .args .n) (s .args .table .now) (s .pre .0) _ _ _ (length-take-le (s .args .n) (replicate 32 0) few) (length-take-le (s .args .n) (replicate 32 0) few) (length-take-le (s .args .n) (replicate 32 (pos 0)) few) (q .result) _ _ _ (q .ensures) in
-    sym (length-take-le (s .args .n) ((q .last .1 .1 .1 .0) ++ drop (s .args .n) (replicate 32 0)) (front-inside (q .last .1 .1 .1 .0) (replicate 32 0) (s .args .n) (l .1)))
+slice-aggregate-put-figures-2 c = stars-front (c .before .before .before .before .before .before .before .before .before .before)
 
 array-share-prefix-heads : tie.Need-array-share-prefix-heads
-array-share-prefix-heads c =
-    let s = c .before .before .before .before .before .before .before .before .before .before .before .before .before .before .before in
-    let few : s .args .n ≤ 32 = omega (arith, s .pre .0 .few) in
-    let q = c .before .before .before .before .before .before .before .before .before .before .solve in
-    let l = solved-lengths (s .args .n) (s .args .table .now) (s .pre .0) _ _ _ (length-take-le (s .args .n) (replicate 32 0) few) (length-take-le (s .args .n) (replicate 32 0) few) (length-take-le (s .args .n) (replicate 32 (pos 0)) few) (q .result) _ _ _ (q .ensures) in
-    front-inside (q .last .1 .1 .1 .1 .0) (replicate 32 (pos 0)) (s .args .n) (l .2)
+array-share-prefix-heads c = heads-inside (c .before .before .before .before .before .before .before .before .before .before)
 
 slice-aggregate-put-figures-3 : tie.Need-slice-aggregate-put-figures-3
-slice-aggregate-put-figures-3 c =
-    let s = c .before .before .before .before .before .before .before .before .before .before .before .before .before .before .before .before in
-    let few : s .args .n ≤ 32 = omega (arith, s .pre .0 .few) in
-    let q = c .before .before .before .before .before .before .before .before .before .before .before .solve in
-    let l = solved-lengths (s .args .n) (s .args .table .now) (s .pre .0) _ _ _ (length-take-le (s .args .n) (replicate 32 0) few) (length-take-le (s .args .n) (replicate 32 0) few) (length-take-le (s .args .n) (replicate 32 (pos 0)) few) (q .result) _ _ _ (q .ensures) in
-    sym (length-take-le (s .args .n) ((q .last .1 .1 .1 .1 .0) ++ drop (s .args .n) (replicate 32 (pos 0))) (front-inside (q .last .1 .1 .1 .1 .0) (replicate 32 (pos 0)) (s .args .n) (l .2)))
+slice-aggregate-put-figures-3 c = heads-front (c .before .before .before .before .before .before .before .before .before .before .before)
 
 put-figures-requires : tie.Need-put-figures-requires
 put-figures-requires c κs =
     let s = c .before .before .before .before .before .before .before .before .before .before .before .before .before .before .before .before .before in
-    let few : s .args .n ≤ 32 = omega (arith, s .pre .0 .few) in
-    let q = c .before .before .before .before .before .before .before .before .before .before .before .before .solve in
-    let l = solved-lengths (s .args .n) (s .args .table .now) (s .pre .0) _ _ _ (length-take-le (s .args .n) (replicate 32 0) few) (length-take-le (s .args .n) (replicate 32 0) few) (length-take-le (s .args .n) (replicate 32 (pos 0)) few) (q .result) _ _ _ (q .ensures) in
-    (omega (arith, length-take-le (s .args .n) ((q .last .1 .1 .0) ++ drop (s .args .n) (replicate 32 0)) (front-inside (q .last .1 .1 .0) (replicate 32 0) (s .args .n) (l .0))), omega (arith, length-take-le (s .args .n) ((q .last .1 .1 .1 .0) ++ drop (s .args .n) (replicate 32 0)) (front-inside (q .last .1 .1 .1 .0) (replicate 32 0) (s .args .n) (l .1))), omega (arith, length-take-le (s .args .n) ((q .last .1 .1 .1 .1 .0) ++ drop (s .args .n) (replicate 32 (pos 0))) (front-inside (q .last .1 .1 .1 .1 .0) (replicate 32 (pos 0)) (s .args .n) (l .2))), search needs)
+    omega (arith, table-fits (s .args .n) (s .args .table .now) _ (s .pre .0) (found (c .before .before .before .before)), s .pre .1)
 
 enum-known-answer-2 : tie.Need-enum-known-answer-2
 enum-known-answer-2 c = search needs
 
 put-refusal-requires : tie.Need-put-refusal-requires
-put-refusal-requires c κs = search needs
+put-refusal-requires c κs =
+    let s = c .before .before .before .before .before .before .before .before .before .before .before .before in
+    omega (arith, table-fits (s .args .n) (s .args .table .now) _ (s .pre .0) (none (c .before .before)), s .pre .1)
 
 same-length : tie.Need-same-length
 same-length c = search needs
 
 returns : tie.Need-returns
-returns c =
-    let s = c .before .before .before .before .before .before .before .before .before .before .before .before .before .before .before .before .before .before .before .before in
-    let few : s .args .n ≤ 32 = omega (arith, s .pre .0 .few) in
-    let q = c .before .before .before .before .before .before .before .before .before .before .before .before .before .before .before .solve in
-    let l = solved-lengths (s .args .n) (s .args .table .now) (s .pre .0) _ _ _ (length-take-le (s .args .n) (replicate 32 0) few) (length-take-le (s .args .n) (replicate 32 0) few) (length-take-le (s .args .n) (replicate 32 (pos 0)) few) (q .result) _ _ _ (q .ensures) in
-    let fit : SFits w32 (c .before .before .before .before .before .before .before .before .before .before .answer .given .0 .0) = search needs in
-    record {
-      said = _;
-      holds = solved-says (s .args .n) (s .args .table .now) (s .pre .0) _ _ _ (length-take-le (s .args .n) (replicate 32 0) few) (length-take-le (s .args .n) (replicate 32 0) few) (length-take-le (s .args .n) (replicate 32 (pos 0)) few) (q .result) _ _ _ _ _ _ _ (c .before .before .before .before .before .before .before .largest .result) (q .ensures) (c .before .before .before .before .before .before .before .before .before .before .answer .given .1) (front-is (q .last .1 .1 .0) (replicate 32 0) (s .args .n) (l .0)) (front-is (q .last .1 .1 .1 .0) (replicate 32 0) (s .args .n) (l .1)) (front-is (q .last .1 .1 .1 .1 .0) (replicate 32 (pos 0)) (s .args .n) (l .2)) (c .before .before .before .before .before .before .before .largest .ensures);
-      puts = short-same _ _ (s .args .page .now) _ (c .before .before .put-figures .result) whole whole (ap (λ y. printed (gives (figures (take (s .args .n) ((q .last .1 .1 .0) ++ drop (s .args .n) (replicate 32 0))) (take (s .args .n) ((q .last .1 .1 .1 .0) ++ drop (s .args .n) (replicate 32 0))) (take (s .args .n) ((q .last .1 .1 .1 .1 .0) ++ drop (s .args .n) (replicate 32 (pos 0)))) y (c .before .before .before .before .before .before .before .largest .result)))) (toZ-ofZ fit)) refl (c .before .before .put-figures .ensures);
-    }
+returns c = record { said = _; holds = found (c .before .before .before .before .before .before .before); puts = c .before .before .put-figures .ensures }
 
 same-length-2 : tie.Need-same-length-2
 same-length-2 c = search needs
 
 returns-2 : tie.Need-returns-2
-returns-2 c =
-    let s = c .before .before .before .before .before .before .before .before .before .before .before .before .before .before .before in
-    let few : s .args .n ≤ 32 = omega (arith, s .pre .0 .few) in
-    let q = c .before .before .before .before .before .before .before .before .before .before .solve in
-    let l = solved-lengths (s .args .n) (s .args .table .now) (s .pre .0) _ _ _ (length-take-le (s .args .n) (replicate 32 0) few) (length-take-le (s .args .n) (replicate 32 0) few) (length-take-le (s .args .n) (replicate 32 (pos 0)) few) (q .result) _ _ _ (q .ensures) in
-    record {
-      said = _;
-      holds = refused-says (s .args .n) (s .args .table .now) (s .pre .0) _ _ _ (length-take-le (s .args .n) (replicate 32 0) few) (length-take-le (s .args .n) (replicate 32 0) few) (length-take-le (s .args .n) (replicate 32 (pos 0)) few) (q .result) _ _ _ _ (q .ensures) (c .before .before .before .before .before .answer2 .given .1);
-      puts = c .before .before .put-refusal .ensures;
-    }
+returns-2 c = record { said = _; holds = none (c .before .before .before .before .before); puts = c .before .before .put-refusal .ensures }
 
 pub put-table-spec : {M : Type 1} → statement M
 put-table-spec =

@@ -33,12 +33,12 @@ print-input-requires c κs = search needs
 array-share-prefix-room : tie.Need-array-share-prefix-room
 array-share-prefix-room c =
     let q = c .print-input in
-    input-inside _ _ _ (q .last .1 .1 .0) (q .result) (q .ensures)
+    input-inside (q .ensures)
 
 slice-aggregate-write-all : tie.Need-slice-aggregate-write-all
 slice-aggregate-write-all c =
     let q = c .before .print-input in
-    sym (length-take-le (q .result) (q .last .1 .1 .0) (input-inside _ _ _ (q .last .1 .1 .0) (q .result) (q .ensures)))
+    sym (length-take-le (q .result) (q .last .1 .1 .0) (input-inside (q .ensures)))
 
 write-all-requires : tie.Need-write-all-requires
 write-all-requires c κs = search needs

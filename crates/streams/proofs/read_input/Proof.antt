@@ -33,7 +33,7 @@ answer-is : (c : tie.Else2 Inv-loop μ-loop) → let z = c .before .before .befo
 answer-is c = let f : SFits w64 (c .before .before .before .before .read .result) = search needs in toZ-ofZ f
 
 -- a turn that goes on has got from one byte to as many as were left
-more : (c : tie.Else2 Inv-loop μ-loop) → Got (left (c .before .before .before .before .before .before .before)) (c .before .before .before .before .read .result)
+more : (c : tie.Else2 Inv-loop μ-loop) → let r = c .before .before .before .before in Got (left (r .before .before .before)) (r .read .result)
 more c =
     let l = c .before .before .before .before .before .before .before in
     let r = c .before .before .before .before .read in

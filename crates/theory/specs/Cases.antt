@@ -29,11 +29,11 @@ pub record Case : Type 0 where
   pub handed : Handed
   pub outcome : Outcome
 
--- a start that leads to the answer: "Any canon within the stated limit, or any transversal of greatest sum"
-abbrev pub Leads : (n : ℕ) → (ℕ → ℕ → ℤ) → Handed → Type 0
-Leads n a nothing = Unit
-Leads n a (additions m) = (length m ≡ n) × ((i : ℕ) → i < n → nums m i ≤ handed) × Canon n a (nums m)
-Leads n a (stars s) = StarList n s × Greatest n a (columns s)
+-- what is handed in leads to the answer: "Any canon within the stated limit, or any transversal of greatest sum"
+abbrev pub Answerable : (n : ℕ) → (ℕ → ℕ → ℤ) → Handed → Type 0
+Answerable n a nothing = Unit
+Answerable n a (additions m) = (length m ≡ n) × ((i : ℕ) → i < n → nums m i ≤ handed) × Canon n a (nums m)
+Answerable n a (stars s) = StarList n s × Greatest n a (columns s)
 
 -- the handed start is "no canon", or is misplaced
 abbrev pub NoCanon : (n : ℕ) → (ℕ → ℕ → ℤ) → Handed → Type 0
@@ -49,7 +49,7 @@ Misplaces n a (stars s) = StarList n s × Misplaced n a (columns s)
 -- the outcome is right, by the definitions; the lowest refusal that applies
 abbrev pub Comes : (n : ℕ) → (ℕ → ℕ → ℤ) → Handed → Outcome → Type 0
 Comes n a given (answer l s h z) =
-    Leads n a given × StarList n s × (length l ≡ n) × (length h ≡ n) × Solution n a (λ i. 0) (nums l) (columns s) (ints h) z
+    Answerable n a given × StarList n s × (length l ≡ n) × (length h ≡ n) × Solution n a (λ i. 0) (nums l) (columns s) (ints h) z
 Comes n a given refusal6 = NoTransversal n a
 Comes n a given refusal7 = SomeTransversal n a × NoCanon n a given
 Comes n a given refusal8 = SomeTransversal n a × Misplaces n a given

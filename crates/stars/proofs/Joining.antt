@@ -106,7 +106,8 @@ module _ {n : ℕ} {a : ℕ → ℕ → ℤ} {l : ℕ → ℕ} {i : ℕ} {σ nex
             ap queue′ s ∙ pq .at ∙ sym e
 
     -- what was found stays as it was
-    pub more-found : {step₀ queue₀ : ℕ → ℕ} {count₀ : ℕ} → MoreFound n step₀ queue₀ count₀ step queue count → MoreFound n step₀ queue₀ count₀ step′ queue′ (count + 1)
+    pub more-found : {step₀ queue₀ : ℕ → ℕ} {count₀ : ℕ} → MoreFound n step₀ queue₀ count₀ step queue count
+        → MoreFound n step₀ queue₀ count₀ step′ queue′ (count + 1)
     more-found g = record {
       more = omega (arith, g .more);
       same = λ p h. before p (omega (arith, g .more)) ∙ g .same p h;

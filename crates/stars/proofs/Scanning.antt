@@ -74,15 +74,17 @@ module _ {t : List ℤ} {n : ℕ} {l : List ℕ} {i : ℕ} {columns : List ℕ} 
         }
 
   -- ---- all columns of the queue are scanned
-  pub search-start : {w r : Ways} → n ≤ rows → i < n → LongWays w → ((x : ℕ) → x < n → nums (w .step) x ≡ 0) → w .count ≡ 0 → Joined w i i r → SearchedTo t n l i columns 0 r
+  pub search-start : {w r : Ways} → n ≤ rows → i < n → LongWays w → ((x : ℕ) → x < n → nums (w .step) x ≡ 0) → w .count ≡ 0 → Joined w i i r
+      → SearchedTo t n l i columns 0 r
   search-start {w} {r} small hi long none zero j =
       let ps = put-is (w .step) (r .step) i (w .count + 1) (j .step) (omega (arith, long .step)) in
       let pq = put-is (w .queue) (r .queue) (w .count) i (j .queue) (omega (arith, long .queue)) in
       record {
         ways = record {
           long = long-join long j;
-          ways = rw (j .count, zero) (found-first n (entry t n) (nums l) i (nums columns) (nums (r .next)) (nums (r .step)) (nums (r .queue)) (nums (w .step)) hi none
-              (rw zero at ps) (ap (nums (r .queue)) (sym zero) ∙ pq .at));
+          ways = rw (j .count, zero)
+              (found-first n (entry t n) (nums l) i (nums columns) (nums (r .next)) (nums (r .step)) (nums (r .queue)) (nums (w .step)) hi
+              none (rw zero at ps) (ap (nums (r .queue)) (sym zero) ∙ pq .at));
         };
         scanned = λ p h. absurd (omega arith);
       }

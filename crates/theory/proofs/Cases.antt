@@ -15,14 +15,17 @@ use Rattle.theory.specs.Totals.{total}
 use Rattle.theory.specs.Limits.{rows, order, handed}
 use Rattle.theory.specs.Lists.{nums, ints, flags, columns, StarList}
 use Rattle.theory.specs.Table.{absent, Present, Order, entry}
-use Rattle.theory.specs.Canon.{Transversal, raised, Maximum, OfMaxima, Canon, Heads, Before, sum, Misplaced, exceeded, Solution, SomeTransversal, NoTransversal}
-use Rattle.theory.specs.Cases.{Handed, nothing, additions, stars, Outcome, answer, refusal6, refusal7, refusal8, Case, Answerable, NoCanon, Misplaces, Comes, Right, Every, cases}
+use Rattle.theory.specs.Canon.{Transversal, SomeTransversal, NoTransversal, raised, Maximum, OfMaxima, Canon, Heads, Before, sum}
+use Rattle.theory.specs.Canon.{Misplaced, exceeded, Solution}
+use Rattle.theory.specs.Cases.{Handed, nothing, additions, stars, Outcome, answer, refusal6, refusal7, refusal8}
+use Rattle.theory.specs.Cases.{Case, Answerable, NoCanon, Misplaces, Comes, Right, Every, cases}
 use Rattle.theory.specs.Paths.{itself}
 use Rattle.theory.proofs.Pigeonhole.{onto}
 use Rattle.theory.proofs.Signed.{signed}
 use Rattle.theory.proofs.Unique.{sum-same}
 use Rattle.theory.proofs.Paths.{Depends, path-by, paths-least}
-use Rattle.theory.proofs.Search.{guard, fresh, search, both, and-both, either, every, every-told, all, all-told, all-tells, some, some-told, some-tells, listed, listed-at, found, found-told, found-tells, Chosen}
+use Rattle.theory.proofs.Search.{guard, both, and-both, either, every, every-told, all, all-told, all-tells, some, some-told, some-tells}
+use Rattle.theory.proofs.Search.{fresh, search, listed, listed-at, found, found-told, found-tells, Chosen}
 
 -- ---- tests of numbers
 same : ℤ → ℤ → Bool
@@ -109,7 +112,8 @@ module _ (n : ℕ) (a : ℕ → ℕ → ℤ) where
   none-told : T (not transversal) → NoTransversal n a
   unfolding transversal any
   none-told t σ r =
-      T-not transversal t (found-tells n (λ i j. present (a i j)) any σ (r .inside) (λ i hi. present-tells (a i (σ i)) (r .present i hi)) (r .apart) (λ q e s. tt))
+      T-not transversal t
+      (found-tells n (λ i j. present (a i j)) any σ (r .inside) (λ i hi. present-tells (a i (σ i)) (r .present i hi)) (r .apart) (λ q e s. tt))
 
   canon : (ℕ → ℕ) → Bool
   canon l = found n (maximum l) any
@@ -133,7 +137,9 @@ module _ (n : ℕ) (a : ℕ → ℕ → ℤ) where
   unfolding canon any
   no-canon-told l t c =
       let m = c .of-maxima in
-      T-not (canon l) t (found-tells n (maximum l) any (c .columns) (m .transversal .inside) (λ i hi. maximum-tells l i (c .columns i) (m .maximum i hi)) (m .transversal .apart) (λ q e s. tt))
+      T-not (canon l) t
+      (found-tells n (maximum l) any (c .columns) (m .transversal .inside) (λ i hi. maximum-tells l i (c .columns i) (m .maximum i hi))
+      (m .transversal .apart) (λ q e s. tt))
 
   -- ---- transversals of a greater sum
   more : (ℕ → ℕ) → List ℕ → Bool
@@ -160,7 +166,8 @@ module _ (n : ℕ) (a : ℕ → ℕ → ℤ) where
     where
       go : (b : Bool) → ltZ (sum n a σ) (sum n a τ) ≡ b → sum n a τ ≤ℤ sum n a σ
       go true e =
-          absurd (T-not (surpassed σ) t (found-tells n (λ i j. present (a i j)) (more σ) τ (r .inside) (λ i hi. present-tells (a i (τ i)) (r .present i hi)) (r .apart)
+          absurd (T-not (surpassed σ) t
+          (found-tells n (λ i j. present (a i j)) (more σ) τ (r .inside) (λ i hi. present-tells (a i (τ i)) (r .present i hi)) (r .apart)
           (λ q len s. rw (sum-same n a {σ = nums q} {τ = τ} s, e) tt)))
       go false e = omega (arith, signed)
 
@@ -178,7 +185,8 @@ module _ (n : ℕ) (a : ℕ → ℕ → ℤ) where
       (found-tells n (maximum l) (before σ) τ (m .transversal .inside) (λ i hi. maximum-tells l i (τ i) (m .maximum i hi)) (m .transversal .apart)
       (λ q len s.
       some-tells n (λ i. ltb (nums q i) (σ i) && all i (λ k. eqb (nums q k) (σ k))) (b .row) (b .inside)
-      (and-both (ltb (nums q (b .row)) (σ (b .row))) (all (b .row) (λ k. eqb (nums q k) (σ k))) (lt→ltb (nums q (b .row)) (σ (b .row)) (omega (arith, s (b .row) (b .inside), b .smaller)))
+      (and-both (ltb (nums q (b .row)) (σ (b .row))) (all (b .row) (λ k. eqb (nums q k) (σ k)))
+      (lt→ltb (nums q (b .row)) (σ (b .row)) (omega (arith, s (b .row) (b .inside), b .smaller)))
       (all-tells (b .row) (λ k. eqb (nums q k) (σ k)) (λ k hk. rw (s k (omega (arith, b .inside)) ∙ b .same k hk) (eqb-refl (σ k)))))))
 
   -- ---- levels
@@ -283,7 +291,9 @@ module _ (n : ℕ) (a : ℕ → ℕ → ℤ) (l s : List ℕ) (h : List ℤ) (z 
     solution =
         record {
           additions = paths-least n a of-maxima (λ i hi. omega arith)
-              (λ i hi. level-told n a (nums l) (columns s) (of-maxima .transversal .inside) n i hi (all-told n (λ i. flags (levels n a (nums l) (columns s) n) i) (every-told answer-tests t 4) i hi));
+              (λ i hi.
+              level-told n a (nums l) (columns s) (of-maxima .transversal .inside) n i hi
+              (all-told n (λ i. flags (levels n a (nums l) (columns s) n) i) (every-told answer-tests t 4) i hi));
           stars = record { of-maxima = of-maxima; first = first-told n a (nums l) (columns s) (every-told answer-tests t 5) };
           heads = heads;
           is-sum = same-told z (sum n a (columns s)) (every-told answer-tests t 7);
@@ -365,8 +375,11 @@ module _ (n : ℕ) (a : ℕ → ℕ → ℤ) where
       (transversal-told n a f, refused-stars-told given g)
 
 -- ---- the test of a case
+order-within : ℤ → Bool
+order-within v = leZ (negℤ (pos order)) v && leZ v (pos order)
+
 within : ℤ → Bool
-within v = implies (present v) (leZ (negℤ (pos order)) v && leZ v (pos order))
+within v = implies (present v) (order-within v)
 
 case-tests : Case → List Bool
 case-tests c =
@@ -381,19 +394,22 @@ test c = every (case-tests c)
 
 -- the one theorem: a case that passes the test is right, by the definitions
 pub right : (c : Case) → T (test c) → Right c
-unfolding test case-tests within
+unfolding test case-tests within order-within
 right c t =
     record {
       some = leb→le 1 (c .size) (every-told (case-tests c) t 0);
       few = leb→le (c .size) rows (every-told (case-tests c) t 1);
       square = eqb→eq (length (c .table)) (c .size * c .size) (every-told (case-tests c) t 2);
-      entries = λ k hk p. orders (getD (c .table) k (pos 0)) (all-told (length (c .table)) (λ k. within (getD (c .table) k (pos 0))) (every-told (case-tests c) t 3) k hk) p;
+      entries = λ k hk.
+          orders (getD (c .table) k (pos 0))
+          (all-told (length (c .table)) (λ k. within (getD (c .table) k (pos 0))) (every-told (case-tests c) t 3) k hk);
       comes = comes-told (c .size) (entry (c .table) (c .size)) (c .handed) (c .outcome) (every-told (case-tests c) t 4);
     }
   where
     orders : (v : ℤ) → T (within v) → Present v → Order order v
     orders v u p =
-        let (lo, hi) = both (leZ (negℤ (pos order)) v) (leZ v (pos order)) (implies-told (present v) (leZ (negℤ (pos order)) v && leZ v (pos order)) u (present-tells v p)) in
+        let o = implies-told (present v) (order-within v) u (present-tells v p) in
+        let (lo, hi) = both (leZ (negℤ (pos order)) v) (leZ v (pos order)) o in
         record { low = leZ-yes lo; high = leZ-yes hi }
 
 tests : List Case → Bool
@@ -407,5 +423,6 @@ all-right (c ∷ cs) t = let (p, q) = both (test c) (tests cs) t in (right c p, 
 
 -- every P table of document 01 is right: the test of the whole list is computed here
 pub cases-right : Every Right cases
-unfolding tests test case-tests within comes answerable refused-canon refused-stars answer-tests star-tests levels next preceded before surpassed more canon transversal any maximum implies present same total guard every all some listed fresh search found
+unfolding tests test case-tests within order-within comes answerable refused-canon refused-stars answer-tests star-tests levels next
+    preceded before surpassed more canon transversal any maximum implies present same total guard every all some listed fresh search found
 cases-right = all-right cases tt

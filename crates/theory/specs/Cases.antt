@@ -121,7 +121,12 @@ cases =
     -- `0 - / - 7`
     record { size = 2; table = o 0 ∷ x ∷ x ∷ o 7 ∷ []; handed = nothing; outcome = answer (0 ∷ 0 ∷ []) (1 ∷ 2 ∷ []) (o 0 ∷ o 7 ∷ []) (o 7) } ∷
     -- `5 0 0 / 5 0 0 / 0 1 1`
-    record { size = 3; table = o 5 ∷ o 0 ∷ o 0 ∷ o 5 ∷ o 0 ∷ o 0 ∷ o 0 ∷ o 1 ∷ o 1 ∷ []; handed = nothing; outcome = answer (1 ∷ 1 ∷ 0 ∷ []) (1 ∷ 2 ∷ 3 ∷ []) (o 6 ∷ o 1 ∷ o 1 ∷ []) (o 6) } ∷
+    record {
+      size = 3;
+      table = o 5 ∷ o 0 ∷ o 0 ∷ o 5 ∷ o 0 ∷ o 0 ∷ o 0 ∷ o 1 ∷ o 1 ∷ [];
+      handed = nothing;
+      outcome = answer (1 ∷ 1 ∷ 0 ∷ []) (1 ∷ 2 ∷ 3 ∷ []) (o 6 ∷ o 1 ∷ o 1 ∷ []) (o 6);
+    } ∷
     -- the pendulum
     record { size = 3; table = pendulum; handed = nothing; outcome = pendulum-answer } ∷
     -- the pendulum, additions 4 4 6
@@ -136,6 +141,7 @@ cases =
       table = map pos jacobi;
       handed = nothing;
       outcome =
-          answer (11 ∷ 21 ∷ 33 ∷ 0 ∷ 31 ∷ 24 ∷ 0 ∷ 11 ∷ 22 ∷ 24 ∷ []) (6 ∷ 2 ∷ 1 ∷ 3 ∷ 4 ∷ 8 ∷ 7 ∷ 5 ∷ 10 ∷ 9 ∷ []) (o 47 ∷ o 53 ∷ o 61 ∷ o 49 ∷ o 84 ∷ o 102 ∷ o 91 ∷ o 45 ∷ o 43 ∷ o 110 ∷ []) (o 508);
+          answer (11 ∷ 21 ∷ 33 ∷ 0 ∷ 31 ∷ 24 ∷ 0 ∷ 11 ∷ 22 ∷ 24 ∷ []) (6 ∷ 2 ∷ 1 ∷ 3 ∷ 4 ∷ 8 ∷ 7 ∷ 5 ∷ 10 ∷ 9 ∷ [])
+          (o 47 ∷ o 53 ∷ o 61 ∷ o 49 ∷ o 84 ∷ o 102 ∷ o 91 ∷ o 45 ∷ o 43 ∷ o 110 ∷ []) (o 508);
     } ∷
     []

@@ -24,18 +24,20 @@ use Rattle.growth.specs.declared.LeastGap.{LeastGap}
 use Rattle.growth.specs.Steps.{no-gap, Joining, LookedAt, Rising, RisenBy}
 use Rattle.growth.specs.Growing.{insertion-rise, Tight, Free, Flipped, Ready, Meeting}
 use Rattle.growth.proofs.Growth.{by-flag, flag-set}
-use Rattle.growth.proofs.Insertion.{Search, Setting, search-start, search-look, search-stuck, rise-most, search-rise, rise-meets, search-way, search-join}
+use Rattle.growth.proofs.Insertion.{Search, Setting, search-start, search-look, search-stuck, search-rise, search-way, search-join}
+use Rattle.growth.proofs.Insertion.{rise-most, rise-meets}
 
 mag-small : (z : ℤ) (b : ℕ) → up z ≤ b + dn z → dn z ≤ up z + b → mag z ≤ b
 mag-small (pos k) b p q = omega arith
 mag-small (lib.IntN.negsuc k) b p q = omega arith
 
 -- an insertion of row s under way, whose row `row` joins the tree next
-pub record Searching (t : List ℤ) (n : ℕ) (start : ℕ → ℕ) (s : ℕ) (l : List ℕ) (h : List ℤ) (ρ κ : List ℕ) (tree reached : List Bool) (gaps givers : List ℕ) (row : ℕ) : Type 0 where
+pub record Searching (t : List ℤ) (n : ℕ) (start : ℕ → ℕ) (s : ℕ) (l : List ℕ) (h : List ℤ) (ρ κ : List ℕ)
+    (tree reached : List Bool) (gaps givers : List ℕ) (row : ℕ) : Type 0 where
   pub inside : row < n
   pub long : Long l × Long h × Long gaps × Long givers × Long tree × Long reached
-  pub search : Search n (entry t n) start s (handed + s * insertion-rise) (nums l) (ints h) (nums ρ) (nums κ) (flags tree) (flags (set tree row true)) (flags reached)
-      (nums gaps) (nums givers)
+  pub search : Search n (entry t n) start s (handed + s * insertion-rise) (nums l) (ints h) (nums ρ) (nums κ)
+      (flags tree) (flags (set tree row true)) (flags reached) (nums gaps) (nums givers)
 
 module _ {t : List ℤ} {n : ℕ} {start : ℕ → ℕ} {s : ℕ} {l₀ : List ℕ} {h₀ : List ℤ} {ρ κ : List ℕ} (rd : Ready t n start s l₀ h₀ ρ κ) (hs : s < n) where
   setting : Setting n (entry t n) start s (handed + s * insertion-rise)
@@ -130,7 +132,8 @@ module _ {t : List ℤ} {n : ℕ} {start : ℕ → ℕ} {s : ℕ} {l₀ : List �
               let c = k .column lt in
               search-rise setting looked (r .gap) (k .least) (r .column) (c .0) (c .1) (c .2) lt (v .addition) (v .head) (v .gap)
 
-          meets : (nums p (r .column) < n) × T (flags (set tree row true) (nums p (r .column))) × Tight n (entry t n) (nums l′) (ints h′) (nums p (r .column)) (r .column)
+          meets : (nums p (r .column) < n) × T (flags (set tree row true) (nums p (r .column)))
+              × Tight n (entry t n) (nums l′) (ints h′) (nums p (r .column)) (r .column)
           meets =
               let c = k .column lt in
               rise-meets setting looked (r .gap) (k .least) (r .column) (c .0) (c .1) (c .2) lt (v .addition) (v .head) (v .gap)

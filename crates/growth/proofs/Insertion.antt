@@ -37,7 +37,8 @@ pub record Heights (n s b : ℕ) (l : ℕ → ℕ) (tree reached : ℕ → Bool)
   pub fits : spread + 2 * order * unset n reached ≤ 2 * order * n
 
 -- An insertion of row s under way: of the tree's rows the gaps have taken in those seen.
-pub record Search (n : ℕ) (a : ℕ → ℕ → ℤ) (start : ℕ → ℕ) (s b : ℕ) (l : ℕ → ℕ) (h : ℕ → ℤ) (ρ κ : ℕ → ℕ) (seen tree reached : ℕ → Bool) (gap giver : ℕ → ℕ) : Type 0 where
+pub record Search (n : ℕ) (a : ℕ → ℕ → ℤ) (start : ℕ → ℕ) (s b : ℕ) (l : ℕ → ℕ) (h : ℕ → ℤ) (ρ κ : ℕ → ℕ)
+    (seen tree reached : ℕ → Bool) (gap giver : ℕ → ℕ) : Type 0 where
   pub growing : Growing n a start s l h ρ κ
   pub grown : Tree n a s l h ρ tree reached giver
   pub gaps : (j : ℕ) → j < n → reached j ≡ false → GapOf n a l h seen j (gap j) (giver j)
@@ -534,7 +535,8 @@ module _ {n : ℕ} {a : ℕ → ℕ → ℤ} {start : ℕ → ℕ} {s b : ℕ} {
           record {
             outside = λ i hi f. w .heights .outside i hi (by-flag (tree i) (λ t. flag-clash (put-kept pt i (flag-set t)) f) (λ z. z));
             inside = λ i hi.
-                after (λ x y. T y → l x ≤ b + insertion-rise) pt i (λ q t. omega (arith, w .heights .outside (ρ e) m outside)) (λ ne t. w .heights .inside i hi t);
+                after (λ x y. T y → l x ≤ b + insertion-rise) pt i (λ q t. omega (arith, w .heights .outside (ρ e) m outside))
+                (λ ne t. w .heights .inside i hi t);
             spread = w .heights .spread + 2 * order;
             above = λ i hi.
                 after (λ x y. T y → l x ≤ l s + (w .heights .spread + 2 * order)) pt i

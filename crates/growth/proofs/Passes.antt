@@ -166,7 +166,8 @@ module _ {δ : ℕ} {tree reached : List Bool} {l : List ℕ} {h : List ℤ} {ga
       }
 
   -- what the next place holds is small, and its gap no less than the rise
-  module _ {k : ℕ} {l′ : List ℕ} {h′ : List ℤ} {g′ : List ℕ} (w : RisenTo k δ tree reached l h gaps l′ h′ g′) {n : ℕ} (r : Rising n δ l h gaps) (inside : k < n) where
+  module _ {k : ℕ} {l′ : List ℕ} {h′ : List ℤ} {g′ : List ℕ} (w : RisenTo k δ tree reached l h gaps l′ h′ g′)
+      {n : ℕ} (r : Rising n δ l h gaps) (inside : k < n) where
     pub rise-add : {u : ℕ} → u ≤ δ → nums l′ k + u ≤ 3 * ceiling
     rise-add le = omega (arith, w .rest k (omega arith) .0, r .additions k inside, r .rise)
 

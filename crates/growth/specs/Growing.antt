@@ -58,6 +58,10 @@ module _ (n : ℕ) (a : ℕ → ℕ → ℤ) where
     pub link : (i : ℕ) → i < s → T (tree i)
         → (giver (κ i) < n) × T (tree (giver (κ i))) × Tight l h (giver (κ i)) (κ i) × (rank (giver (κ i)) < rank i)
 
+-- the same of the arrays of the code
+abbrev pub FreeIn : List ℤ → ℕ → ℕ → List ℕ → List ℤ → List ℕ → ℕ → Type 0
+FreeIn t n s l h row-of j = Free n (entry t n) s (nums l) (ints h) (nums row-of) j
+
 -- some way back
 pub record SomeWay (s end : ℕ) (givers row-of column-of : List ℕ) : Type 0 where
   pub n : ℕ
@@ -109,7 +113,8 @@ pub record Met (t : List ℤ) (n s : ℕ) (l : List ℕ) (h : List ℤ) (row-of 
   pub long : Long l′ × Long h′
 
 -- row s is inserted, from whatever start; or there is no complete transversal
-pub record Inserted (t : List ℤ) (n s : ℕ) (l : List ℕ) (h : List ℤ) (row-of column-of : List ℕ) (found : Bool) (l′ : List ℕ) (h′ : List ℤ) (row-of′ column-of′ : List ℕ) : Type 0 where
+pub record Inserted (t : List ℤ) (n s : ℕ) (l : List ℕ) (h : List ℤ) (row-of column-of : List ℕ) (found : Bool)
+    (l′ : List ℕ) (h′ : List ℤ) (row-of′ column-of′ : List ℕ) : Type 0 where
   pub ready : found ≡ true → (start : ℕ → ℕ) → Ready t n start s l h row-of column-of → Ready t n start (s + 1) l′ h′ row-of′ column-of′
   pub none : found ≡ false → NoTransversal n (entry t n)
   pub long : Long l′ × Long h′ × Long row-of′ × Long column-of′

@@ -45,7 +45,8 @@ pub record Joining (t : List ℤ) (n row : ℕ) (l : List ℕ) (h : List ℤ) (g
 
 -- The ways into the first k columns, of which those reached are as they were and the others take the row in; and the least gap of
 -- the others.
-pub record LookedAt (t : List ℤ) (n k row : ℕ) (l : List ℕ) (h : List ℤ) (reached : List Bool) (gaps givers gaps′ givers′ : List ℕ) (r : LeastGap) : Type 0 where
+pub record LookedAt (t : List ℤ) (n k row : ℕ) (l : List ℕ) (h : List ℤ) (reached : List Bool)
+    (gaps givers gaps′ givers′ : List ℕ) (r : LeastGap) : Type 0 where
   pub ways : (j : ℕ) → j < k → flags reached j ≡ false
       → Nearer (entry t n row j) (nums l row) (ints h j) row (nums gaps j) (nums givers j) (nums gaps′ j) (nums givers′ j)
   pub kept : (j : ℕ) → j < k → flags reached j ≡ true → (nums gaps′ j ≡ nums gaps j) × (nums givers′ j ≡ nums givers j)

@@ -8,7 +8,7 @@ ghost use Rattle.theory.specs.Table.{Present, entry};
 ghost use Rattle.orders.specs.Places.{ceiling, Square, UnderCeiling};
 ghost use Rattle.orders.specs.Held.{Long, Startable};
 ghost use Rattle.growth.specs.Steps.{no-gap, Reckonable, Nearer, Lesser, Joining, LookedAt, share, Narrowed, Rising, RisenBy};
-ghost use Rattle.growth.specs.Growing.{Free, SomeWay, Flipped, SomeReady, SomeColumns, Met, Inserted, FirstOf};
+ghost use Rattle.growth.specs.Growing.{FreeIn, SomeWay, Flipped, SomeReady, SomeColumns, Met, Inserted, FirstOf};
 ghost use Rattle.growth.specs.Grown.{GrownFrom};
 use orders::ABSENT;
 use orders::ROWS;
@@ -254,7 +254,7 @@ fn free_column(
     rows: &[usize; ROWS],
 ) -> usize
     requires { ⌜ Square (now table) n × (s < n) × (nums (now additions) s ≤ ceiling) ⌝ }
-    ensures { λ r. ⌜ (r < n → Free n (entry (now (table .entry)) n) s (nums (now (additions .entry))) (ints (now (heads .entry))) (nums (now (rows .entry))) r) ⌝ }
+    ensures { λ r. ⌜ (r < n → FreeIn (now (table .entry)) n s (now (additions .entry)) (now (heads .entry)) (now (rows .entry)) r) ⌝ }
 {
     let addition = additions[s];
     let mut j = 0;
@@ -405,7 +405,8 @@ fn first_heads(table: &[i16], n: usize, start: &[u32; ROWS], heads: &mut [i32; R
     true
 }
 
-// The least canon from a start, with a complete transversal of column maxima; or that there is no complete transversal. Rules out additions that are no canon, a canon that is not the least, and an answer either way that is not so.
+// The least canon from a start, with a complete transversal of column maxima; or that there is no complete transversal. Rules out
+// additions that are no canon, a canon that is not the least, and an answer either way that is not so.
 pub fn grow(n: usize, table: &[i16], start: [u32; ROWS]) -> Grown
     requires { ⌜ Startable (now table) n start ⌝ }
     ensures { λ r. ⌜ GrownFrom (now (table .entry)) n start r ⌝ }

@@ -155,7 +155,9 @@ module _ {t : List ℤ} {n : ℕ} {columns canon floors : List ℕ} (g : CanonGi
   pub going-start : {k : ℕ} → LeastSlack n n canon floors (replicate rows false) k → Going t n columns canon floors canon floors (replicate rows false) k
   going-start s =
       record {
-        falling = falling-start n (entry t n) (nums columns) (nums floors) (nums canon) (flags (replicate rows false)) (g .canon-by .of-maxima) (g .not-below) (all-unset rows);
+        falling =
+            falling-start n (entry t n) (nums columns) (nums floors) (nums canon) (flags (replicate rows false)) (g .canon-by .of-maxima)
+            (g .not-below) (all-unset rows);
         next = s;
         long = length-replicate rows false;
         not-above = λ i hi. omega arith;
@@ -169,7 +171,8 @@ module _ {t : List ℤ} {n : ℕ} {columns canon floors : List ℕ} (g : CanonGi
     pub going-spare : Spare n additions settled (nums additions k - nums least k)
     going-spare i hi e = omega (arith, go .next .least hk i hi e)
 
-    module _ (additions′ : List ℕ) (fallen : (i : ℕ) → i < n → Fallen (nums additions) (flags settled) (nums additions k - nums least k) i (nums additions′ i)) where
+    module _ (additions′ : List ℕ)
+        (fallen : (i : ℕ) → i < n → Fallen (nums additions) (flags settled) (nums additions k - nums least k) i (nums additions′ i)) where
       pub going-lower : AtMost n (nums additions′) (nums additions)
       going-lower i hi = lower (flags settled i) refl
         where

@@ -27,7 +27,12 @@ module _ (n : ℕ) (l floors : List ℕ) (settled : List Bool) where
     -- row k is the first unsettled one, or has less to fall than the best before it
     pub slack-taken : k < n → flags settled k ≡ false → (best < n → slack k ≤ slack best) → LeastSlack n (k + 1) l floors settled k
     slack-taken hk u le =
-        record { within = omega arith; unsettled = λ h. u; least = λ h i hi v. go i hi v (ℕ-discrete i k) (ℕ-discrete best n); none = λ e. absurd (omega arith) }
+        record {
+          within = omega arith;
+          unsettled = λ h. u;
+          least = λ h i hi v. go i hi v (ℕ-discrete i k) (ℕ-discrete best n);
+          none = λ e. absurd (omega arith);
+        }
       where
         go : (i : ℕ) → i < k + 1 → flags settled i ≡ false → Dec (i ≡ k) → Dec (best ≡ n) → slack k ≤ slack i
         go i hi v (yes e) d = rw e (omega arith)

@@ -18,7 +18,7 @@ use Rattle.theory.proofs.Pigeonhole.{choose, choose-yes, choose-no, dec-both}
 use Rattle.theory.proofs.Totals.{total-ge, total-lt, total-bound}
 use Rattle.theory.proofs.Signed.{raised-le-ud}
 use Rattle.theory.proofs.Duality.{greatest-maxima, maxima-everywhere}
-use Rattle.theory.proofs.Reach.{reach, some-at-start}
+use Rattle.theory.proofs.Paths.{leads-out, some-at-start}
 use Rattle.orders.specs.Places.{ceiling}
 use Rattle.orders.proofs.Entries.{clash}
 use Rattle.raising.specs.declared.Raising.{Raising}
@@ -67,7 +67,7 @@ module _ (limit b n : ℕ) (a : ℕ → ℕ → ℤ) (σ start : ℕ → ℕ) wh
       one f s (no p) = inl (λ i hi. absurd (p (omega arith)))
 
   -- A round that changes something makes one more row final. For a row that it changes was not final; so K, on the rows not final,
-  -- gives such a row i, tied in its own column to a final row k; and the round raises row i to where row k takes it.
+  -- gives such a row i that leads to a final row k; and the round raises row i to where row k takes it.
   module _ {r : ℕ} {l next : ℕ → ℕ} {e : Bool} (s : BeforeRound r l) (w : Round limit n a σ l n e next) where
     module _ (f : ℕ → ℕ) (sf : LeastFrom n a start f) (c : OfMaxima n a f σ) where
       under : AtMost n next f
@@ -83,15 +83,15 @@ module _ (limit b n : ℕ) (a : ℕ → ℕ → ℤ) (σ start : ℕ → ℕ) wh
 
       step : (x : ℕ) → x < n → l x < f x → totalℕ n (final f l) < totalℕ n (final f next)
       step x hx lt =
-          let (i, k, xi, hk, out, m) =
-          reach n a sf c (λ i. (i < n) × (l i < f i)) (λ i. dec-both (decLt i n) (decLt (l i) (f i)))
+          let (i, k, xi, out, v) =
+          leads-out n a sf c (λ i. (i < n) × (l i < f i)) (λ i. dec-both (decLt i n) (decLt (l i) (f i)))
           (λ i o. (o .0, omega (arith, o .1, s .from-start i (o .0)))) x (hx, lt) in
-          let lk : f k ≤ l k = outside k hk out (decLt (l k) (f k)) in
+          let lk : f k ≤ l k = outside k (v .to) out (decLt (l k) (f k)) in
           let is : next i ≡ f i = omega (
             arith,
             under i (xi .0),
-            raised-le-ud (a i (σ i)) (a k (σ i)) (f i) (f k) (m .unexceeded i (xi .0) (c .transversal .present i (xi .0))),
-            raised-le-ud (a k (σ i)) (a i (σ i)) (l k) (next i) (w .reaches i k (xi .0) hk (m .present)),
+            raised-le-ud (a i (σ i)) (a k (σ i)) (f i) (f k) (v .holds .unexceeded i (xi .0) (c .transversal .present i (xi .0))),
+            raised-le-ud (a k (σ i)) (a i (σ i)) (l k) (next i) (w .reaches i k (xi .0) (v .to) (v .holds .present)),
           ) in
           total-lt n (final f l) (final f next) i final-more (xi .0)
           (omega (

@@ -14,7 +14,8 @@ module _ (n : ℕ) (a : ℕ → ℕ → ℤ) (l : ℕ → ℕ) (j : ℕ) where
   pub head-above : {h : ℤ} {i : ℕ} → Head n a l j h → i < n → Present (a i j) → a i j ≤ℤ h
   head-above {h} {i} t hi p = omega (arith, signed, under-head n a t i hi p, plus (a i j) (pos (l i)))
 
-  pub head-under : {limit : ℕ} {h : ℤ} → limit ≤ ceiling → j < n → WithinLimit limit n a → ((i : ℕ) → i < n → l i ≤ ceiling) → Head n a l j h → h ≤ℤ pos (2 * ceiling)
+  pub head-under : {limit : ℕ} {h : ℤ} → limit ≤ ceiling → j < n → WithinLimit limit n a → ((i : ℕ) → i < n → l i ≤ ceiling) → Head n a l j h
+      → h ≤ℤ pos (2 * ceiling)
   head-under small hj w le t =
       omega (
         arith,

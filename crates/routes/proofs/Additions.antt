@@ -48,7 +48,8 @@ module _ {t : List ℤ} {n : ℕ} {given : List ℕ} (g : GivenAdditions t n giv
     -- a canon is the least from itself, so growing changes nothing in it
     unmoved : Canon n (entry t n) (nums given) → (i : ℕ) → i < n → nums l i ≡ nums start i
     unmoved c i hi =
-        omega (arith, w .least .from-start i hi, w .least .least (nums start) (canon-same n (entry t n) (λ i hi. sym (agrees i hi)) c) (λ i hi. omega arith) i hi)
+        let own = canon-same n (entry t n) (λ i hi. sym (agrees i hi)) c in
+        omega (arith, w .least .from-start i hi, w .least .least (nums start) own (λ i hi. omega arith) i hi)
 
     pub reduced-moved : {l′ rows columns′ : List ℕ} → (((i : ℕ) → i < n → nums l i ≡ nums start i) → ⊥)
         → ReducedFrom t n given (record { found = true; canon = false; unchanged = false; additions = l′; rows = rows; columns = columns′ })

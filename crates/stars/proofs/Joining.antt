@@ -7,6 +7,7 @@ use native.Mathlib.Omega.{arith}
 use lib.IntN.{ℤ}
 use Rattle.theory.specs.Canon.{Maximum}
 use Rattle.theory.proofs.Pigeonhole.{onto, crowded}
+use Rattle.theory.specs.Paths.{Leads}
 use Rattle.stars.specs.Search.{RowsFound, MoreFound, ScannedTo}
 use Rattle.orders.proofs.Stores.{Put}
 
@@ -44,8 +45,8 @@ module _ {n : ℕ} {a : ℕ → ℕ → ℤ} {l : ℕ → ℕ} {i : ℕ} {σ nex
       go (no h) =
           absurd (crowded n queue (λ p q hp hq e. queue-apart p q (omega arith) (omega arith) e) (λ p hp. w .row p (omega arith)))
 
-  module _ {next′ step′ queue′ : ℕ → ℕ} {k m : ℕ} (hk : k < n) (later : i < k) (none : step k ≡ 0) (hm : m < n) (known : 0 < step m)
-      (tight : Maximum n a l k (σ m)) (pn : Put next next′ k m) (ps : Put step step′ k (count + 1)) (pq : Put queue queue′ count k) where
+  module _ {next′ step′ queue′ : ℕ → ℕ} {k m : ℕ} (hk : k < n) (later : i < k) (none : step k ≡ 0) (known : 0 < step m)
+      (lead : Leads n (Maximum n a l) σ m k) (pn : Put next next′ k m) (ps : Put step step′ k (count + 1)) (pq : Put queue queue′ count k) where
     -- a row that was found is not k, and keeps its step
     not-k : (x : ℕ) → 0 < step x → x ≢ k
     not-k x h e = omega (arith, ap step e)
@@ -74,7 +75,7 @@ module _ {n : ℕ} {a : ℕ → ℕ → ℤ} {l : ℕ → ℕ} {i : ℕ} {σ nex
       | no ne ↦ rw (ps .off x ne, pn .off x ne) (old x hx (was x ne h) ni)
     ]
 
-    -- One more row is found: row k, with a maximum in the column of row m, joins at the end of the queue. Rows found before keep their
+    -- One more row is found: row k, to which row m leads, joins at the end of the queue. Rows found before keep their
     -- steps and their next rows, and m's step is below k's, which is the greatest.
     pub found-more : RowsFound n a l i σ next′ step′ queue′ (count + 1)
     found-more = record {
@@ -92,11 +93,10 @@ module _ {n : ℕ} {a : ℕ → ℕ → ℤ} {l : ℕ → ℕ} {i : ℕ} {σ nex
             before (step x - 1) (omega (arith, w .counted x hx (was x ne h), was x ne h))
             ∙ w .queued x hx (was x ne h))
       ];
-      inside = each (λ x s y. y < n) hm (w .inside);
-      maximum = each (λ x s y. Maximum n a l x (σ y)) tight (w .maximum);
+      leads = each (λ x s y. Leads n (Maximum n a l) σ y x) lead (w .leads);
       found = each (λ x s y. 0 < step′ y) (rw (kept m known) known) (λ x hx h ni. rw (kept (next x) (w .found x hx h ni)) (w .found x hx h ni));
       nearer = each (λ x s y. step′ y < s)
-          (rw (kept m known) (omega (arith, w .counted m hm known)))
+          (rw (kept m known) (omega (arith, w .counted m (lead .from) known)))
           (λ x hx h ni. rw (kept (next x) (w .found x hx h ni)) (w .nearer x hx h ni));
     }
       where
@@ -106,7 +106,8 @@ module _ {n : ℕ} {a : ℕ → ℕ → ℤ} {l : ℕ → ℕ} {i : ℕ} {σ nex
             ap queue′ s ∙ pq .at ∙ sym e
 
     -- what was found stays as it was
-    pub more-found : {step₀ queue₀ : ℕ → ℕ} {count₀ : ℕ} → MoreFound n step₀ queue₀ count₀ step queue count → MoreFound n step₀ queue₀ count₀ step′ queue′ (count + 1)
+    pub more-found : {step₀ queue₀ : ℕ → ℕ} {count₀ : ℕ} → MoreFound n step₀ queue₀ count₀ step queue count
+        → MoreFound n step₀ queue₀ count₀ step′ queue′ (count + 1)
     more-found g = record {
       more = omega (arith, g .more);
       same = λ p h. before p (omega (arith, g .more)) ∙ g .same p h;
@@ -141,8 +142,7 @@ found-first n a l i σ next step queue step₀ hi zero ps first = record {
   numbered = λ p h. rw (at p h) (omega (arith, ps .at));
   counted = λ x hx h. omega (arith, ap step (only x hx h), ps .at);
   queued = λ x hx h. let s : step x - 1 ≡ 0 = omega (arith, ap step (only x hx h), ps .at) in ap queue s ∙ first ∙ sym (only x hx h);
-  inside = λ x hx h ni. absurd (ni (only x hx h));
-  maximum = λ x hx h ni. absurd (ni (only x hx h));
+  leads = λ x hx h ni. absurd (ni (only x hx h));
   found = λ x hx h ni. absurd (ni (only x hx h));
   nearer = λ x hx h ni. absurd (ni (only x hx h));
 }

@@ -34,7 +34,7 @@ starred-so {t} {n} {l} {w} {i} {j} {later} maxima late hi b own = record {
   first = λ τ of same.
       exchange n (entry t n) (nums l) (nums (w .columns)) (nums (w .rows)) (maxima .marks .row) (maxima .marks .forth)
       (λ k. 0 < nums later k) (λ k. decLt 0 (nums later k)) i (nums (w .columns) i) hi (late .late i hi (omega arith))
-      (λ k h hk c hc max known. late .late k hk (omega arith))
+      (λ m k h known lead. late .late k (lead .to) (omega arith))
       (λ c h hc max known. b .none c (omega arith) max known) τ of same;
 }
 
@@ -104,6 +104,6 @@ module _ {t : List ℤ} {n : ℕ} {l : List ℕ} {i j : ℕ} {w₀ : MarkArrays}
           first = λ τ of same. rw takes (
               exchange n (entry t n) (nums l) (nums (w₀ .columns)) (nums (w₀ .rows)) (maxima .marks .row) (maxima .marks .forth)
               (λ x. 0 < nums step x) (λ x. decLt 0 (nums step x)) i j hi (root-found (s .found .ways))
-              (λ x h hx c hc top known. s .all (nums (w₀ .rows) c) (maxima .marks .row c hc) known x h hx (rw (maxima .marks .forth c hc) top))
+              (s .all)
               (λ c h hc top known. b .none c h top known) τ of (λ x h. same x h ∙ p .shift .before x h));
         }

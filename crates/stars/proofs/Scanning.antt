@@ -1,6 +1,7 @@
 -- The steps of the search over the lists of the code. Assumes nothing.
 use mathlib.Core.Path.{_≡_, sym, _∙_, ap}
 use mathlib.Core.List.{List}
+use mathlib.Core.Logic.{_≢_}
 use Prim.Native.Nat.{ℕ, _+_, _-_, _≤_, _<_}
 use native.Mathlib.Decide.{ℕ-discrete}
 use native.Mathlib.Omega.{arith}
@@ -10,6 +11,7 @@ use Rattle.theory.specs.Limits.{rows}
 use Rattle.theory.specs.Lists.{nums}
 use Rattle.theory.specs.Table.{entry}
 use Rattle.theory.specs.Canon.{Maximum}
+use Rattle.theory.specs.Paths.{Leads}
 use Rattle.stars.specs.Search.{Ways, LongWays, Joined, ScannedTo, RowsFoundIn, Scanned, Searched}
 use Rattle.stars.proofs.Joining.{queue-room, found-more, more-found, scanned-found, scanned-next, more-none, found-first}
 use Rattle.orders.proofs.Stores.{Put, put-nums}
@@ -53,32 +55,36 @@ module _ {t : List ℤ} {n : ℕ} {l : List ℕ} {i : ℕ} {columns : List ℕ} 
       all = scanned-next n (entry t n) (nums l) i (nums columns m) (nums (r .step)) k (s .all) new;
     }
 
-    pub scan-join : {r′ : Ways} → n ≤ rows → k < n → i < k → nums (r .step) k ≡ 0 → m < n → 0 < nums (w .step) m
+    pub scan-join : {r′ : Ways} → n ≤ rows → k < n → i < k → nums (r .step) k ≡ 0 → m < n → 0 < nums (w .step) m → nums columns m < n
         → Maximum n (entry t n) (nums l) k (nums columns m) → Joined r k m r′ → Scanned t n l i columns m (k + 1) w r′
-    scan-join {r′} small hk later none hm known tight j =
+    scan-join {r′} small hk later none hm known column max j =
         let long = s .ways .long in
         let f = s .ways .ways in
         let known′ = s .grown .kept m hm known in
         let room = join-room (s .ways) k hk none in
+        let other : k ≢ m = λ e. omega (arith, ap (nums (r .step)) e) in
+        let lead : Leads n (Maximum n (entry t n) (nums l)) (nums columns) m k = record { from = hm; column = column; to = hk; another = other; holds = max } in
         let px = put-is (r .next) (r′ .next) k m (j .next) (omega (arith, long .next)) in
         let ps = put-is (r .step) (r′ .step) k (r .count + 1) (j .step) (omega (arith, long .step)) in
         let pq = put-is (r .queue) (r′ .queue) (r .count) k (j .queue) (omega (arith, long .queue)) in
         record {
-          ways = record { long = long-join long j; ways = rw (j .count) (found-more f hk later none hm known′ tight px ps pq) };
-          grown = rw (j .count) (more-found f hk later none hm known′ tight px ps pq (s .grown));
-          all = scanned-found f hk later none hm known′ tight px ps pq (s .all);
+          ways = record { long = long-join long j; ways = rw (j .count) (found-more f hk later none known′ lead px ps pq) };
+          grown = rw (j .count) (more-found f hk later none known′ lead px ps pq (s .grown));
+          all = scanned-found f hk later none known′ lead px ps pq (s .all);
         }
 
   -- ---- all columns of the queue are scanned
-  pub search-start : {w r : Ways} → n ≤ rows → i < n → LongWays w → ((x : ℕ) → x < n → nums (w .step) x ≡ 0) → w .count ≡ 0 → Joined w i i r → SearchedTo t n l i columns 0 r
+  pub search-start : {w r : Ways} → n ≤ rows → i < n → LongWays w → ((x : ℕ) → x < n → nums (w .step) x ≡ 0) → w .count ≡ 0 → Joined w i i r
+      → SearchedTo t n l i columns 0 r
   search-start {w} {r} small hi long none zero j =
       let ps = put-is (w .step) (r .step) i (w .count + 1) (j .step) (omega (arith, long .step)) in
       let pq = put-is (w .queue) (r .queue) (w .count) i (j .queue) (omega (arith, long .queue)) in
       record {
         ways = record {
           long = long-join long j;
-          ways = rw (j .count, zero) (found-first n (entry t n) (nums l) i (nums columns) (nums (r .next)) (nums (r .step)) (nums (r .queue)) (nums (w .step)) hi none
-              (rw zero at ps) (ap (nums (r .queue)) (sym zero) ∙ pq .at));
+          ways = rw (j .count, zero)
+              (found-first n (entry t n) (nums l) i (nums columns) (nums (r .next)) (nums (r .step)) (nums (r .queue)) (nums (w .step)) hi
+              none (rw zero at ps) (ap (nums (r .queue)) (sym zero) ∙ pq .at));
         };
         scanned = λ p h. absurd (omega arith);
       }
@@ -97,9 +103,12 @@ module _ {t : List ℤ} {n : ℕ} {l : List ℕ} {i : ℕ} {columns : List ℕ} 
     search-row h = (s .ways .ways .row at h, omega (arith, s .ways .ways .numbered at h))
 
     pub search-end : w .count ≤ at → Searched t n l i columns (w .next) (w .step)
-    search-end h = record {
+    search-end end = record {
       queue = w .queue;
       count = w .count;
       found = s .ways;
-      all = λ m hm known. rw (s .ways .ways .queued m hm known) at (s .scanned (nums (w .step) m - 1) (omega (arith, s .ways .ways .counted m hm known)));
+      all = λ m k h known lead.
+          let f = s .ways .ways in
+          let whole = s .scanned (nums (w .step) m - 1) (omega (arith, f .counted m (lead .from) known, end)) in
+          (rw (f .queued m (lead .from) known) at whole) k h (lead .to) (lead .holds);
     }

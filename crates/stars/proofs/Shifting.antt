@@ -80,9 +80,9 @@ module _ {n : ℕ} {a : ℕ → ℕ → ℤ} {l : ℕ → ℕ} {i j : ℕ} {σ�
         others = by-row (s .marks) swap (s .row) (s .goal) (λ x y. x ≢ m → Maximum n a l x y)
             (λ ne. rw still (s .maximum)) (λ ne. absurd (ne refl)) (λ x hx nk nm ne. s .others x hx nk);
         before = λ x h. swap .rest x (omega (arith, s .late)) (omega (arith, later)) ∙ s .before x h;
-        goal = ways .inside m (s .goal) (s .found) on;
+        goal = ways .leads m (s .goal) (s .found) on .from;
         found = ways .found m (s .goal) (s .found) on;
-        maximum = ways .maximum m (s .goal) (s .found) on;
+        maximum = ways .leads m (s .goal) (s .found) on .holds;
         same = λ x hx ne h le.
             let old = s .same x hx ne h (omega (arith, shift-less)) in
             swap .rest x (λ e. ne (one-row w₀ x i hx hi (sym old ∙ ap σ e ∙ s .has))) (λ e. omega (arith, ap step e, shift-less)) ∙ old;

@@ -8,6 +8,7 @@ use lib.ListN.{set}
 use Rattle.theory.specs.Lists.{nums}
 use Rattle.theory.specs.Table.{entry}
 use Rattle.theory.specs.Canon.{Maximum}
+use Rattle.theory.specs.Paths.{Leads}
 use Rattle.orders.specs.Held.{Long}
 
 module _ (n : ℕ) (a : ℕ → ℕ → ℤ) (l : ℕ → ℕ) where
@@ -18,8 +19,8 @@ module _ (n : ℕ) (a : ℕ → ℕ → ℤ) (l : ℕ → ℕ) where
     pub eligible-row : r < own → 0 < eligible (row-of r)
     pub none : (j : ℕ) → j < r → Maximum n a l i j → 0 < eligible (row-of j) → ⊥
 
-  -- The rows found so far, row i the first of them, stand in the queue in the order of their steps; each but row i has a maximum in the
-  -- column of the row `next` that it goes on to, which was found before it.
+  -- The rows found so far, row i the first of them, stand in the queue in the order of their steps; each but row i is led to by its row
+  -- `next`, which was found before it.
   pub record RowsFound (i : ℕ) (column-of next step queue : ℕ → ℕ) (count : ℕ) : Type 0 where
     pub root : step i ≡ 1
     pub row : (p : ℕ) → p < count → queue p < n
@@ -27,8 +28,7 @@ module _ (n : ℕ) (a : ℕ → ℕ → ℤ) (l : ℕ → ℕ) where
     pub numbered : (p : ℕ) → p < count → step (queue p) ≡ p + 1
     pub counted : (k : ℕ) → k < n → 0 < step k → step k ≤ count
     pub queued : (k : ℕ) → k < n → 0 < step k → queue (step k - 1) ≡ k
-    pub inside : (k : ℕ) → k < n → 0 < step k → k ≢ i → next k < n
-    pub maximum : (k : ℕ) → k < n → 0 < step k → k ≢ i → Maximum n a l k (column-of (next k))
+    pub leads : (k : ℕ) → k < n → 0 < step k → k ≢ i → Leads n (Maximum n a l) column-of (next k) k
     pub found : (k : ℕ) → k < n → 0 < step k → k ≢ i → 0 < step (next k)
     pub nearer : (k : ℕ) → k < n → 0 < step k → k ≢ i → step (next k) < step k
 
@@ -86,9 +86,9 @@ pub record Unsearched (n : ℕ) (next step : List ℕ) : Type 0 where
   pub long-step : Long step
   pub none : (k : ℕ) → k < n → nums step k ≡ 0
 
--- every row after i from which the column of row i can be reached is found, in some order
+-- every row after i to which a row found leads is found, in some order
 pub record Searched (t : List ℤ) (n : ℕ) (l : List ℕ) (i : ℕ) (column-of next step : List ℕ) : Type 0 where
   pub queue : List ℕ
   pub count : ℕ
   pub found : RowsFoundIn t n l i column-of (ways next step queue count)
-  pub all : (m : ℕ) → m < n → 0 < nums step m → ScannedTo n (entry t n) (nums l) i (nums column-of m) (nums step) n
+  pub all : (m k : ℕ) → i < k → 0 < nums step m → Leads n (Maximum n (entry t n) (nums l)) (nums column-of) m k → 0 < nums step k

@@ -41,7 +41,15 @@ fn least_column(
     own: usize,
 ) -> usize
     requires { ⌜ Given (now table) n (now additions) (now heads) × (i < n) × (own < n) × ((j : ℕ) → j < n → nums (now rows) j < n) ⌝ }
-    ensures { λ r. ⌜ LeastColumn n (entry (now (table .entry)) n) (nums (now (additions .entry))) (nums (now (rows .entry))) (nums (now (eligible .entry))) i own r ⌝ }
+    ensures { λ r. ⌜ LeastColumn
+        n
+        (entry (now (table .entry)) n)
+        (nums (now (additions .entry)))
+        (nums (now (rows .entry)))
+        (nums (now (eligible .entry)))
+        i
+        own
+        r ⌝ }
 {
     let mut j = 0;
     while j < own {
@@ -96,7 +104,11 @@ fn scan(
     step: &mut [usize; ROWS],
     queue: &mut [usize; ROWS],
 ) -> usize
-    requires { ⌜ Given (now table) n (now additions) (now heads) × Columns n i (now columns) × (m < n) × (0 < nums (now step) m) × RowsFoundIn (now table) n (now additions) i (now columns) (ways (now next) (now step) (now queue) count) ⌝ }
+    requires { ⌜ Given (now table) n (now additions) (now heads)
+        × Columns n i (now columns)
+        × (m < n)
+        × (0 < nums (now step) m)
+        × RowsFoundIn (now table) n (now additions) i (now columns) (ways (now next) (now step) (now queue) count) ⌝ }
     ensures { λ r. ⌜ Scanned
         (now (table .entry))
         n
@@ -228,7 +240,10 @@ fn star_row(
     rows: &mut [usize; ROWS],
     columns: &mut [usize; ROWS],
 )
-    requires { ⌜ Given (now table) n (now additions) (now heads) × MaximaIn (now table) n (now additions) (mark-arrays (now rows) (now columns)) × Later n i (now later) × (i < n) ⌝ }
+    requires { ⌜ Given (now table) n (now additions) (now heads)
+        × MaximaIn (now table) n (now additions) (mark-arrays (now rows) (now columns))
+        × Later n i (now later)
+        × (i < n) ⌝ }
     ensures { λ r. ⌜ Starred
         (now (table .entry))
         n
@@ -257,7 +272,9 @@ pub fn first_stars(
     row_of: [usize; ROWS],
     column_of: [usize; ROWS],
 ) -> [usize; ROWS]
-    requires { ⌜ Given (now table) n (now additions) (now heads) × CanonBy (now table) n (now additions) «column_of» × Marks n (nums «row_of») (nums «column_of») ⌝ }
+    requires { ⌜ Given (now table) n (now additions) (now heads)
+        × CanonBy (now table) n (now additions) «column_of»
+        × Marks n (nums «row_of») (nums «column_of») ⌝ }
     ensures { λ r. ⌜ Stars n (entry (now (table .entry)) n) (nums (now (additions .entry))) (nums r) ⌝ }
 {
     let mut rows = row_of;

@@ -11,27 +11,28 @@ use Rattle.theory.specs.Limits.{rows, order, Figures, FoundWithin}
 use Rattle.theory.specs.Totals.{totalℕ}
 use Rattle.theory.specs.Table.{Order, WithinLimit}
 use Rattle.theory.specs.Canon.{Transversal, Maximum, OfMaxima, LeastFrom, Head, sum, Solution}
+use Rattle.theory.specs.Paths.{Leads}
 use Rattle.theory.proofs.Pigeonhole.{choose, choose-yes, choose-no, exists, dec-both}
 use Rattle.theory.proofs.Totals.{total-ge, total-lt, total-bound, total-tight}
 use Rattle.theory.proofs.Signed.{up, dn, plus, signed, raised-le-ud, below-zero, total-ud}
-use Rattle.theory.proofs.Reach.{reach}
+use Rattle.theory.proofs.Paths.{leads-out}
 
 module _ (n : ℕ) (a : ℕ → ℕ → ℤ) where
-  -- two rows that are tied differ by at most 2 L
-  tied-near : {L : ℕ} {l σ : ℕ → ℕ} {i k : ℕ} → WithinLimit L n a → OfMaxima n a l σ → i < n → k < n → Maximum n a l k (σ i) → l i ≤ l k + 2 * L
-  tied-near {L} {l} {σ} {i} {k} w c hi hk m =
-      let p = w i (σ i) hi (c .transversal .inside i hi) (c .transversal .present i hi) in
-      let q = w k (σ i) hk (c .transversal .inside i hi) (m .present) in
+  -- a row is at most 2 L above one that it leads to
+  lead-near : {L : ℕ} {l σ : ℕ → ℕ} {i k : ℕ} → WithinLimit L n a → OfMaxima n a l σ → Leads n (Maximum n a l) σ i k → l i ≤ l k + 2 * L
+  lead-near {L} {l} {σ} {i} {k} w c s =
+      let p = w i (σ i) (s .from) (s .column) (c .transversal .present i (s .from)) in
+      let q = w k (σ i) (s .to) (s .column) (s .holds .present) in
       omega (
         arith,
         signed,
         p .low,
         q .high,
-        raised-le-ud (a i (σ i)) (a k (σ i)) (l i) (l k) (m .unexceeded i hi (c .transversal .present i hi)),
+        raised-le-ud (a i (σ i)) (a k (σ i)) (l i) (l k) (s .holds .unexceeded i (s .from) (c .transversal .present i (s .from))),
       )
 
   -- The rows whose addition is at most B + 2Lt, B being at least every start, number at least t + 1, or are all rows. By induction
-  -- on t: K, on the rows above, finds one of them tied to a row below, hence at most 2L higher: one more row for t + 1.
+  -- on t: K, on the rows above, finds one of them that leads to a row below, hence at most 2L higher: one more row for t + 1.
   module _ {L B : ℕ} {start l : ℕ → ℕ} (w : WithinLimit L n a) (lf : LeastFrom n a start l) (starts : (i : ℕ) → i < n → start i ≤ B) where
     abbrev height : ℕ → ℕ
     height t = B + t * (2 * L)
@@ -42,13 +43,13 @@ module _ (n : ℕ) (a : ℕ → ℕ → ℤ) where
     abbrev All : ℕ → Type 0
     All t = (i : ℕ) → i < n → l i ≤ height t
 
-    -- a row above the height, tied to one that is not
+    -- a row above the height that leads to one that is not
     step : (t x : ℕ) → x < n → height t < l x → (i k : ℕ) × (i < n) × (height t < l i) × (k < n) × (l k ≤ height t) × (l i ≤ l k + 2 * L)
     step t x hx above =
-        let (i, k, xi, hk, out, m) =
-        reach n a lf (lf .canon .of-maxima) (λ i. (i < n) × (height t < l i)) (λ i. dec-both (decLt i n) (decLt (height t) (l i)))
+        let (i, k, xi, out, s) =
+        leads-out n a lf (lf .canon .of-maxima) (λ i. (i < n) × (height t < l i)) (λ i. dec-both (decLt i n) (decLt (height t) (l i)))
         (λ i o. (o .0, omega (arith, o .1, starts i (o .0)))) x (hx, above) in
-        (i, k, xi .0, xi .1, hk, go k hk out (decLe (l k) (height t)), tied-near w (lf .canon .of-maxima) (xi .0) hk m)
+        (i, k, xi .0, xi .1, s .to, go k (s .to) out (decLe (l k) (height t)), lead-near w (lf .canon .of-maxima) s)
       where
         go : (k : ℕ) → k < n → ((k < n) × (height t < l k) → ⊥) → Dec (l k ≤ height t) → l k ≤ height t
         go k hk out (yes le) = le

@@ -1,5 +1,5 @@
 -- The P tables: one test of a case that the checker computes, one theorem that turns the test into the definitions, and the list.
--- The simplest canon is told by 001's proposition VII (the levels exhaust the rows), the first stars, "no canon" and "no
+-- The simplest canon is told by 001's proposition VII (the levels exhaust the rows: each has a path to a row at 0), the first stars, "no canon" and "no
 -- transversal" by a search through the rows, the sum and the heads by working them out. Assumes nothing.
 use mathlib.Core.Path.{_≡_, refl, _∙_}
 use mathlib.Core.Logic.{_⊎_, inl, inr}
@@ -15,13 +15,17 @@ use Rattle.theory.specs.Totals.{total}
 use Rattle.theory.specs.Limits.{rows, order, handed}
 use Rattle.theory.specs.Lists.{nums, ints, flags, columns, StarList}
 use Rattle.theory.specs.Table.{absent, Present, Order, entry}
-use Rattle.theory.specs.Canon.{Transversal, raised, Maximum, OfMaxima, Canon, Heads, Before, sum, Misplaced, exceeded, Solution, SomeTransversal, NoTransversal}
-use Rattle.theory.specs.Cases.{Handed, nothing, additions, stars, Outcome, answer, refusal6, refusal7, refusal8, Case, Leads, NoCanon, Misplaces, Comes, Right, Every, cases}
+use Rattle.theory.specs.Canon.{Transversal, SomeTransversal, NoTransversal, raised, Maximum, OfMaxima, Canon, Heads, Before, sum}
+use Rattle.theory.specs.Canon.{Misplaced, exceeded, Solution}
+use Rattle.theory.specs.Cases.{Handed, nothing, additions, stars, Outcome, answer, refusal6, refusal7, refusal8}
+use Rattle.theory.specs.Cases.{Case, Answerable, NoCanon, Misplaces, Comes, Right, Every, cases}
+use Rattle.theory.specs.Paths.{itself}
 use Rattle.theory.proofs.Pigeonhole.{onto}
 use Rattle.theory.proofs.Signed.{signed}
 use Rattle.theory.proofs.Unique.{sum-same}
-use Rattle.theory.proofs.Reach.{Level, levels-least}
-use Rattle.theory.proofs.Search.{guard, fresh, search, both, and-both, either, every, every-told, all, all-told, all-tells, some, some-told, some-tells, listed, listed-at, found, found-told, found-tells, Chosen}
+use Rattle.theory.proofs.Paths.{Depends, path-by, paths-least}
+use Rattle.theory.proofs.Search.{guard, both, and-both, either, every, every-told, all, all-told, all-tells, some, some-told, some-tells}
+use Rattle.theory.proofs.Search.{fresh, search, listed, listed-at, found, found-told, found-tells, Chosen}
 
 -- ---- tests of numbers
 same : ℤ → ℤ → Bool
@@ -108,7 +112,8 @@ module _ (n : ℕ) (a : ℕ → ℕ → ℤ) where
   none-told : T (not transversal) → NoTransversal n a
   unfolding transversal any
   none-told t σ r =
-      T-not transversal t (found-tells n (λ i j. present (a i j)) any σ (r .inside) (λ i hi. present-tells (a i (σ i)) (r .present i hi)) (r .apart) (λ q e s. tt))
+      T-not transversal t
+      (found-tells n (λ i j. present (a i j)) any σ (r .inside) (λ i hi. present-tells (a i (σ i)) (r .present i hi)) (r .apart) (λ q e s. tt))
 
   canon : (ℕ → ℕ) → Bool
   canon l = found n (maximum l) any
@@ -132,7 +137,9 @@ module _ (n : ℕ) (a : ℕ → ℕ → ℤ) where
   unfolding canon any
   no-canon-told l t c =
       let m = c .of-maxima in
-      T-not (canon l) t (found-tells n (maximum l) any (c .columns) (m .transversal .inside) (λ i hi. maximum-tells l i (c .columns i) (m .maximum i hi)) (m .transversal .apart) (λ q e s. tt))
+      T-not (canon l) t
+      (found-tells n (maximum l) any (c .columns) (m .transversal .inside) (λ i hi. maximum-tells l i (c .columns i) (m .maximum i hi))
+      (m .transversal .apart) (λ q e s. tt))
 
   -- ---- transversals of a greater sum
   more : (ℕ → ℕ) → List ℕ → Bool
@@ -159,7 +166,8 @@ module _ (n : ℕ) (a : ℕ → ℕ → ℤ) where
     where
       go : (b : Bool) → ltZ (sum n a σ) (sum n a τ) ≡ b → sum n a τ ≤ℤ sum n a σ
       go true e =
-          absurd (T-not (surpassed σ) t (found-tells n (λ i j. present (a i j)) (more σ) τ (r .inside) (λ i hi. present-tells (a i (τ i)) (r .present i hi)) (r .apart)
+          absurd (T-not (surpassed σ) t
+          (found-tells n (λ i j. present (a i j)) (more σ) τ (r .inside) (λ i hi. present-tells (a i (τ i)) (r .present i hi)) (r .apart)
           (λ q len s. rw (sum-same n a {σ = nums q} {τ = τ} s, e) tt)))
       go false e = omega (arith, signed)
 
@@ -177,7 +185,8 @@ module _ (n : ℕ) (a : ℕ → ℕ → ℤ) where
       (found-tells n (maximum l) (before σ) τ (m .transversal .inside) (λ i hi. maximum-tells l i (τ i) (m .maximum i hi)) (m .transversal .apart)
       (λ q len s.
       some-tells n (λ i. ltb (nums q i) (σ i) && all i (λ k. eqb (nums q k) (σ k))) (b .row) (b .inside)
-      (and-both (ltb (nums q (b .row)) (σ (b .row))) (all (b .row) (λ k. eqb (nums q k) (σ k))) (lt→ltb (nums q (b .row)) (σ (b .row)) (omega (arith, s (b .row) (b .inside), b .smaller)))
+      (and-both (ltb (nums q (b .row)) (σ (b .row))) (all (b .row) (λ k. eqb (nums q k) (σ k)))
+      (lt→ltb (nums q (b .row)) (σ (b .row)) (omega (arith, s (b .row) (b .inside), b .smaller)))
       (all-tells (b .row) (λ k. eqb (nums q k) (σ k)) (λ k hk. rw (s k (omega (arith, b .inside)) ∙ b .same k hk) (eqb-refl (σ k)))))))
 
   -- ---- levels
@@ -188,20 +197,21 @@ module _ (n : ℕ) (a : ℕ → ℕ → ℤ) where
   levels l σ zero = listed n (λ i. eqb (l i) 0)
   levels l σ (suc t) = next l σ (levels l σ t)
 
-  level-told : (l σ : ℕ → ℕ) (t i : ℕ) → T (flags (levels l σ t) i) → Level n a (λ i. 0) l σ t i
-  unfolding levels next Level
-  level-told l σ zero i u = eqb→eq (l i) 0 (listed-at n (λ i. eqb (l i) 0) i u)
-  level-told l σ (suc t) i u =
+  level-told : (l σ : ℕ → ℕ) → ((i : ℕ) → i < n → σ i < n) → (t i : ℕ) → i < n → T (flags (levels l σ t) i) → Depends n a (λ i. 0) l σ i
+  unfolding levels next
+  level-told l σ inside zero i hi u = (i, eqb→eq (l i) 0 (listed-at n (λ i. eqb (l i) 0) i u), itself i)
+  level-told l σ inside (suc t) i hi u =
       go (either (flags (levels l σ t) i) (some n (λ k. flags (levels l σ t) k && maximum l k (σ i)))
-      (listed-at n (λ i. flags (levels l σ t) i || some n (λ k. flags (levels l σ t) k && maximum l k (σ i))) i u)) (level-told l σ t)
+      (listed-at n (λ i. flags (levels l σ t) i || some n (λ k. flags (levels l σ t) k && maximum l k (σ i))) i u)) (level-told l σ inside t)
     where
       go : T (flags (levels l σ t) i) ⊎ T (some n (λ k. flags (levels l σ t) k && maximum l k (σ i)))
-          → ((i : ℕ) → T (flags (levels l σ t) i) → Level n a (λ i. 0) l σ t i) → Level n a (λ i. 0) l σ (suc t) i
-      go (inl v) rec = inl (rec i v)
+          → ((i : ℕ) → i < n → T (flags (levels l σ t) i) → Depends n a (λ i. 0) l σ i) → Depends n a (λ i. 0) l σ i
+      go (inl v) rec = rec i hi v
       go (inr v) rec =
           let (k, hk, w) = some-told n (λ k. flags (levels l σ t) k && maximum l k (σ i)) v in
           let (f, m) = both (flags (levels l σ t) k) (maximum l k (σ i)) w in
-          inr (k, hk, maximum-told l k (σ i) m, rec k f)
+          let (x, e, p) = rec k hk f in
+          (x, e, path-by n a hi (inside i hi) hk (maximum-told l k (σ i) m) p)
 
 -- ---- a list of stars
 module _ (n : ℕ) (s : List ℕ) where
@@ -280,8 +290,10 @@ module _ (n : ℕ) (a : ℕ → ℕ → ℤ) (l s : List ℕ) (h : List ℤ) (z 
     unfolding answer-tests
     solution =
         record {
-          additions = levels-least n a n of-maxima (λ i hi. omega arith)
-              (λ i hi. level-told n a (nums l) (columns s) n i (all-told n (λ i. flags (levels n a (nums l) (columns s) n) i) (every-told answer-tests t 4) i hi));
+          additions = paths-least n a of-maxima (λ i hi. omega arith)
+              (λ i hi.
+              level-told n a (nums l) (columns s) (of-maxima .transversal .inside) n i hi
+              (all-told n (λ i. flags (levels n a (nums l) (columns s) n) i) (every-told answer-tests t 4) i hi));
           stars = record { of-maxima = of-maxima; first = first-told n a (nums l) (columns s) (every-told answer-tests t 5) };
           heads = heads;
           is-sum = same-told z (sum n a (columns s)) (every-told answer-tests t 7);
@@ -293,19 +305,19 @@ module _ (n : ℕ) (a : ℕ → ℕ → ℤ) (l s : List ℕ) (h : List ℤ) (z 
 
 -- ---- what is handed in, and what comes of it
 module _ (n : ℕ) (a : ℕ → ℕ → ℤ) where
-  leads : Handed → Bool
-  leads nothing = true
-  leads (additions m) = eqb (length m) n && (all n (λ i. leb (nums m i) handed) && canon n a (nums m))
-  leads (stars s) = every (star-tests n s) && (all n (λ i. present (a i (columns s i))) && not (surpassed n a (columns s)))
+  answerable : Handed → Bool
+  answerable nothing = true
+  answerable (additions m) = eqb (length m) n && (all n (λ i. leb (nums m i) handed) && canon n a (nums m))
+  answerable (stars s) = every (star-tests n s) && (all n (λ i. present (a i (columns s i))) && not (surpassed n a (columns s)))
 
-  leads-told : (given : Handed) → T (leads given) → Leads n a given
-  unfolding leads
-  leads-told nothing t = tt
-  leads-told (additions m) t =
+  answerable-told : (given : Handed) → T (answerable given) → Answerable n a given
+  unfolding answerable
+  answerable-told nothing t = tt
+  answerable-told (additions m) t =
       let (e, r) = both (eqb (length m) n) (all n (λ i. leb (nums m i) handed) && canon n a (nums m)) t in
       let (f, c) = both (all n (λ i. leb (nums m i) handed)) (canon n a (nums m)) r in
       (eqb→eq (length m) n e, λ i hi. leb→le (nums m i) handed (all-told n (λ i. leb (nums m i) handed) f i hi), canon-told n a (nums m) c)
-  leads-told (stars s) t =
+  answerable-told (stars s) t =
       let (o, r) = both (every (star-tests n s)) (all n (λ i. present (a i (columns s i))) && not (surpassed n a (columns s))) t in
       let (p, q) = both (all n (λ i. present (a i (columns s i)))) (not (surpassed n a (columns s))) r in (
         star-list-told n s o,
@@ -343,7 +355,7 @@ module _ (n : ℕ) (a : ℕ → ℕ → ℤ) where
       (star-list-told n s o, surpassed-told n a (columns s) r)
 
   comes : Handed → Outcome → Bool
-  comes given (answer l s h z) = leads given && every (answer-tests n a l s h z)
+  comes given (answer l s h z) = answerable given && every (answer-tests n a l s h z)
   comes given refusal6 = not (transversal n a)
   comes given refusal7 = transversal n a && refused-canon given
   comes given refusal8 = transversal n a && refused-stars given
@@ -351,9 +363,9 @@ module _ (n : ℕ) (a : ℕ → ℕ → ℤ) where
   comes-told : (given : Handed) (o : Outcome) → T (comes given o) → Comes n a given o
   unfolding comes
   comes-told given (answer l s h z) t =
-      let (f, g) = both (leads given) (every (answer-tests n a l s h z)) t in
+      let (f, g) = both (answerable given) (every (answer-tests n a l s h z)) t in
       let (p, q) = lengths n a l s h z g in
-      (leads-told given f, listing n a l s h z g, p, q, solution n a l s h z g)
+      (answerable-told given f, listing n a l s h z g, p, q, solution n a l s h z g)
   comes-told given refusal6 t = none-told n a t
   comes-told given refusal7 t =
       let (f, g) = both (transversal n a) (refused-canon given) t in
@@ -363,8 +375,11 @@ module _ (n : ℕ) (a : ℕ → ℕ → ℤ) where
       (transversal-told n a f, refused-stars-told given g)
 
 -- ---- the test of a case
+order-within : ℤ → Bool
+order-within v = leZ (negℤ (pos order)) v && leZ v (pos order)
+
 within : ℤ → Bool
-within v = implies (present v) (leZ (negℤ (pos order)) v && leZ v (pos order))
+within v = implies (present v) (order-within v)
 
 case-tests : Case → List Bool
 case-tests c =
@@ -379,19 +394,22 @@ test c = every (case-tests c)
 
 -- the one theorem: a case that passes the test is right, by the definitions
 pub right : (c : Case) → T (test c) → Right c
-unfolding test case-tests within
+unfolding test case-tests within order-within
 right c t =
     record {
       some = leb→le 1 (c .size) (every-told (case-tests c) t 0);
       few = leb→le (c .size) rows (every-told (case-tests c) t 1);
       square = eqb→eq (length (c .table)) (c .size * c .size) (every-told (case-tests c) t 2);
-      entries = λ k hk p. orders (getD (c .table) k (pos 0)) (all-told (length (c .table)) (λ k. within (getD (c .table) k (pos 0))) (every-told (case-tests c) t 3) k hk) p;
+      entries = λ k hk.
+          orders (getD (c .table) k (pos 0))
+          (all-told (length (c .table)) (λ k. within (getD (c .table) k (pos 0))) (every-told (case-tests c) t 3) k hk);
       comes = comes-told (c .size) (entry (c .table) (c .size)) (c .handed) (c .outcome) (every-told (case-tests c) t 4);
     }
   where
     orders : (v : ℤ) → T (within v) → Present v → Order order v
     orders v u p =
-        let (lo, hi) = both (leZ (negℤ (pos order)) v) (leZ v (pos order)) (implies-told (present v) (leZ (negℤ (pos order)) v && leZ v (pos order)) u (present-tells v p)) in
+        let o = implies-told (present v) (order-within v) u (present-tells v p) in
+        let (lo, hi) = both (leZ (negℤ (pos order)) v) (leZ v (pos order)) o in
         record { low = leZ-yes lo; high = leZ-yes hi }
 
 tests : List Case → Bool
@@ -405,5 +423,6 @@ all-right (c ∷ cs) t = let (p, q) = both (test c) (tests cs) t in (right c p, 
 
 -- every P table of document 01 is right: the test of the whole list is computed here
 pub cases-right : Every Right cases
-unfolding tests test case-tests within comes leads refused-canon refused-stars answer-tests star-tests levels next preceded before surpassed more canon transversal any maximum implies present same total guard every all some listed fresh search found
+unfolding tests test case-tests within order-within comes answerable refused-canon refused-stars answer-tests star-tests levels next
+    preceded before surpassed more canon transversal any maximum implies present same total guard every all some listed fresh search found
 cases-right = all-right cases tt

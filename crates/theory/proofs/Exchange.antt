@@ -1,20 +1,21 @@
 -- The exchange lemma of the first stars, over any decided set of rows. Assumes nothing.
 use mathlib.Core.Path.{_≡_, sym, _∙_, ap}
 use Prim.Native.Nat.{ℕ, _≤_, _<_}
-use native.Mathlib.Decide.{decLe, decLt}
+use native.Mathlib.Decide.{decLe, decLt, ℕ-discrete}
 use native.Mathlib.Omega.{arith}
 use lib.IntN.{ℤ}
 use Rattle.theory.specs.Canon.{Maximum, OfMaxima}
+use Rattle.theory.specs.Paths.{Leads}
 use Rattle.theory.proofs.Pigeonhole.{dec-both, dec-not, closed-onto}
 
 -- σ and ρ undo each other below n, τ is a complete transversal of column maxima that agrees with σ before row i, and R is a set of
--- rows with row i in it. If R holds every later row with a maximum in the column of a row of R, and row i has no maximum before
+-- rows with row i in it. If R holds every later row to which a row of R leads, and row i has no maximum before
 -- column b in the column of a row of R, then τ has column b or a later one in row i.
 -- For the rows from i on that are not in R are kept within themselves by the map from row k to the row that σ has in column τ k,
 -- so that by P1 each of them is taken by one of them. Were τ i before b, row i would be taken to such a row as well, though it is in R.
 module _ (n : ℕ) (a : ℕ → ℕ → ℤ) (l σ ρ : ℕ → ℕ) (row : (j : ℕ) → j < n → ρ j < n) (forth : (j : ℕ) → j < n → σ (ρ j) ≡ j)
     (R : ℕ → Type 0) (dec : (k : ℕ) → Dec (R k)) (i b : ℕ) (inside : i < n) (root : R i)
-    (back : (k : ℕ) → i < k → k < n → (j : ℕ) → j < n → Maximum n a l k j → R (ρ j) → R k)
+    (back : (m k : ℕ) → i < k → R m → Leads n (Maximum n a l) σ m k → R k)
     (none : (j : ℕ) → j < b → j < n → Maximum n a l i j → R (ρ j) → ⊥)
     (τ : ℕ → ℕ) (of : OfMaxima n a l τ) (same : (k : ℕ) → k < i → τ k ≡ σ k) where
   -- the rows from i on that are not in R
@@ -49,8 +50,15 @@ module _ (n : ℕ) (a : ℕ → ℕ → ℤ) (l σ ρ : ℕ → ℕ) (row : (j :
   turn-cut : (k : ℕ) → Cut k → Cut (turn k)
   turn-cut k (hk, (le, out)) = (row (τ k) (column k hk), (turn-late k hk le, λ r. out (go (decLt i k) r)))
     where
+      led : R (turn k) → i < k → Dec (k ≡ turn k) → R k
+      led r lt (yes e) = rw e r
+      led r lt (no ne) =
+          let e = forth (τ k) (column k hk) in
+          back (turn k) k lt r
+          (record { from = row (τ k) (column k hk); column = rw e (column k hk); to = hk; another = ne; holds = rw e (of .maximum k hk) })
+
       go : Dec (i < k) → R (turn k) → R k
-      go (yes lt) r = back k lt hk (τ k) (column k hk) (of .maximum k hk) r
+      go (yes lt) r = led r lt (ℕ-discrete k (turn k))
       go (no ge) r = let e : k ≡ i = omega arith in rw e root
 
   pub exchange : b ≤ τ i

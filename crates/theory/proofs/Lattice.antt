@@ -4,7 +4,7 @@ use native.Mathlib.Omega.{arith}
 use lib.IntN.{ℤ, pos, _+ℤ_}
 use lib.Signed.{_≤ℤ_}
 use Rattle.theory.specs.Canon.{Canon}
-use Rattle.theory.proofs.Signed.{plus, signed}
+use Rattle.theory.proofs.Signed.{raised-le-ud, ud-raised-le}
 use Rattle.theory.proofs.Duality.{maxima-everywhere}
 
 module _ (n : ℕ) (a : ℕ → ℕ → ℤ) where
@@ -13,10 +13,12 @@ module _ (n : ℕ) (a : ℕ → ℕ → ℤ) where
   Keeps f = (p q : ℤ) (x y u v : ℕ) → (p +ℤ pos x) ≤ℤ (q +ℤ pos u) → (p +ℤ pos y) ≤ℤ (q +ℤ pos v) → (p +ℤ pos (f x y)) ≤ℤ (q +ℤ pos (f u v))
 
   min-keeps : Keeps min
-  min-keeps p q x y u v g h = omega (arith, signed, plus p (pos x), plus p (pos y), plus q (pos u), plus q (pos v), plus p (pos (min x y)), plus q (pos (min u v)))
+  min-keeps p q x y u v g h =
+      ud-raised-le p q (min x y) (min u v) (omega (arith, raised-le-ud p q x u g, raised-le-ud p q y v h))
 
   max-keeps : Keeps max
-  max-keeps p q x y u v g h = omega (arith, signed, plus p (pos x), plus p (pos y), plus q (pos u), plus q (pos v), plus p (pos (max x y)), plus q (pos (max u v)))
+  max-keeps p q x y u v g h =
+      ud-raised-le p q (max x y) (max u v) (omega (arith, raised-le-ud p q x u g, raised-le-ud p q y v h))
 
   -- By C2 both canons have one transversal σ of column maxima. That σ consists of column maxima is a set of bounds of one
   -- addition by another, and what keeps such bounds takes two canons to a canon.

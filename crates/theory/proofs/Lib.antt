@@ -4,7 +4,7 @@ pub mod Totals
 pub mod Duality
 pub mod Lattice
 pub mod Unique
-pub mod Reach
+pub mod Paths
 pub mod Bounds
 pub mod Search
 pub mod Decisions

@@ -180,10 +180,11 @@ module _ (n : ℕ) (allowed : ℕ → ℕ → Bool) (accept : List ℕ → Bool)
     unfolding search fresh
     complete zero p e agree = accepted p (omega arith) (λ i hi. agree i (omega arith))
     complete (suc r) p e agree =
-        some-tells n (λ j. guard (allowed (length p) j && fresh p j) (λ u. search r (p ++ (j ∷ [])))) (τ (length p)) (inside (length p) (omega arith))
-        (unguarded (allowed (length p) (τ (length p)) && fresh p (τ (length p))) (λ u. search r (p ++ (τ (length p) ∷ [])))
-        (and-both (allowed (length p) (τ (length p))) (fresh p (τ (length p))) (places (length p) (omega arith)) (not-T (some (length p) (λ i. eqb (nums p i) (τ (length p)))) old))
-        (complete r (p ++ (τ (length p) ∷ [])) (omega (arith, longer p (τ (length p)))) (λ i hi. next i (ℕ-discrete i (length p)) hi)))
+        let j = τ (length p) in
+        some-tells n (λ j. guard (allowed (length p) j && fresh p j) (λ u. search r (p ++ (j ∷ [])))) j (inside (length p) (omega arith))
+        (unguarded (allowed (length p) j && fresh p j) (λ u. search r (p ++ (j ∷ [])))
+        (and-both (allowed (length p) j) (fresh p j) (places (length p) (omega arith)) (not-T (some (length p) (λ i. eqb (nums p i) j)) old))
+        (complete r (p ++ (j ∷ [])) (omega (arith, longer p j)) (λ i hi. next i (ℕ-discrete i (length p)) hi)))
       where
         old : T (some (length p) (λ i. eqb (nums p i) (τ (length p)))) → ⊥
         old t =

@@ -29,11 +29,11 @@ pub record Case : Type 0 where
   pub handed : Handed
   pub outcome : Outcome
 
--- a start that leads to the answer: "Any canon within the stated limit, or any transversal of greatest sum"
-abbrev pub Leads : (n : ℕ) → (ℕ → ℕ → ℤ) → Handed → Type 0
-Leads n a nothing = Unit
-Leads n a (additions m) = (length m ≡ n) × ((i : ℕ) → i < n → nums m i ≤ handed) × Canon n a (nums m)
-Leads n a (stars s) = StarList n s × Greatest n a (columns s)
+-- what is handed in leads to the answer: "Any canon within the stated limit, or any transversal of greatest sum"
+abbrev pub Answerable : (n : ℕ) → (ℕ → ℕ → ℤ) → Handed → Type 0
+Answerable n a nothing = Unit
+Answerable n a (additions m) = (length m ≡ n) × ((i : ℕ) → i < n → nums m i ≤ handed) × Canon n a (nums m)
+Answerable n a (stars s) = StarList n s × Greatest n a (columns s)
 
 -- the handed start is "no canon", or is misplaced
 abbrev pub NoCanon : (n : ℕ) → (ℕ → ℕ → ℤ) → Handed → Type 0
@@ -49,7 +49,7 @@ Misplaces n a (stars s) = StarList n s × Misplaced n a (columns s)
 -- the outcome is right, by the definitions; the lowest refusal that applies
 abbrev pub Comes : (n : ℕ) → (ℕ → ℕ → ℤ) → Handed → Outcome → Type 0
 Comes n a given (answer l s h z) =
-    Leads n a given × StarList n s × (length l ≡ n) × (length h ≡ n) × Solution n a (λ i. 0) (nums l) (columns s) (ints h) z
+    Answerable n a given × StarList n s × (length l ≡ n) × (length h ≡ n) × Solution n a (λ i. 0) (nums l) (columns s) (ints h) z
 Comes n a given refusal6 = NoTransversal n a
 Comes n a given refusal7 = SomeTransversal n a × NoCanon n a given
 Comes n a given refusal8 = SomeTransversal n a × Misplaces n a given
@@ -121,7 +121,12 @@ cases =
     -- `0 - / - 7`
     record { size = 2; table = o 0 ∷ x ∷ x ∷ o 7 ∷ []; handed = nothing; outcome = answer (0 ∷ 0 ∷ []) (1 ∷ 2 ∷ []) (o 0 ∷ o 7 ∷ []) (o 7) } ∷
     -- `5 0 0 / 5 0 0 / 0 1 1`
-    record { size = 3; table = o 5 ∷ o 0 ∷ o 0 ∷ o 5 ∷ o 0 ∷ o 0 ∷ o 0 ∷ o 1 ∷ o 1 ∷ []; handed = nothing; outcome = answer (1 ∷ 1 ∷ 0 ∷ []) (1 ∷ 2 ∷ 3 ∷ []) (o 6 ∷ o 1 ∷ o 1 ∷ []) (o 6) } ∷
+    record {
+      size = 3;
+      table = o 5 ∷ o 0 ∷ o 0 ∷ o 5 ∷ o 0 ∷ o 0 ∷ o 0 ∷ o 1 ∷ o 1 ∷ [];
+      handed = nothing;
+      outcome = answer (1 ∷ 1 ∷ 0 ∷ []) (1 ∷ 2 ∷ 3 ∷ []) (o 6 ∷ o 1 ∷ o 1 ∷ []) (o 6);
+    } ∷
     -- the pendulum
     record { size = 3; table = pendulum; handed = nothing; outcome = pendulum-answer } ∷
     -- the pendulum, additions 4 4 6
@@ -136,6 +141,7 @@ cases =
       table = map pos jacobi;
       handed = nothing;
       outcome =
-          answer (11 ∷ 21 ∷ 33 ∷ 0 ∷ 31 ∷ 24 ∷ 0 ∷ 11 ∷ 22 ∷ 24 ∷ []) (6 ∷ 2 ∷ 1 ∷ 3 ∷ 4 ∷ 8 ∷ 7 ∷ 5 ∷ 10 ∷ 9 ∷ []) (o 47 ∷ o 53 ∷ o 61 ∷ o 49 ∷ o 84 ∷ o 102 ∷ o 91 ∷ o 45 ∷ o 43 ∷ o 110 ∷ []) (o 508);
+          answer (11 ∷ 21 ∷ 33 ∷ 0 ∷ 31 ∷ 24 ∷ 0 ∷ 11 ∷ 22 ∷ 24 ∷ []) (6 ∷ 2 ∷ 1 ∷ 3 ∷ 4 ∷ 8 ∷ 7 ∷ 5 ∷ 10 ∷ 9 ∷ [])
+          (o 47 ∷ o 53 ∷ o 61 ∷ o 49 ∷ o 84 ∷ o 102 ∷ o 91 ∷ o 45 ∷ o 43 ∷ o 110 ∷ []) (o 508);
     } ∷
     []

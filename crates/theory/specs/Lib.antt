@@ -4,4 +4,5 @@ pub mod Lists
 pub mod Totals
 pub mod Table
 pub mod Canon
+pub mod Paths
 pub mod Cases

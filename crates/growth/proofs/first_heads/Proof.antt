@@ -54,7 +54,8 @@ loop-again c =
     let s = c .before .before .before .before .before .before in (
       omega arith,
       rw (toZ-ofZ f)
-          (heads-step (c .before .before .before .before .before .loop .inv .1) (omega (arith, s .pre .0 .small)) (top .ensures) (not-false _ (c .before .if1 .left))),
+          (heads-step (c .before .before .before .before .before .loop .inv .1) (omega (arith, s .pre .0 .small)) (top .ensures)
+          (not-false _ (c .before .if1 .left))),
     )
 
 returns-2 : tie.Need-returns-2 Inv-loop μ-loop

@@ -15,7 +15,8 @@ use Rattle.growth.proofs.flip.Tie as tie
 abbrev Inv-loop : tie.InvT-loop
 Inv-loop s end givers rows₀ columns₀ j₀ i₀ rows columns j i =
     Long rows × Long columns
-    × ((n : ℕ) (a : ℕ → ℕ → ℤ) (l : ℕ → ℕ) (h : ℕ → ℤ) (w : WayBack n a s l h (nums rows₀) (nums columns₀) (nums givers) end) → Open w (nums rows) (nums columns) j i)
+    × ((n : ℕ) (a : ℕ → ℕ → ℤ) (l : ℕ → ℕ) (h : ℕ → ℤ) (w : WayBack n a s l h (nums rows₀) (nums columns₀) (nums givers) end)
+    → Open w (nums rows) (nums columns) j i)
 
 abbrev μ-loop : tie.MeasureT-loop
 μ-loop s end givers rows₀ columns₀ j₀ i₀ rows columns j i =

@@ -60,11 +60,10 @@ least-slack-requires-2 : tie.Need-least-slack-requires-2 Inv-loop μ-loop
 least-slack-requires-2 c κs =
     let g = c .before .before .before .before .before .before .before .before .before .before .before .before .pre in
     let l = c .before .before .before .before .before .before .before .loop in
-    let h = c .before .before .before .before .before .before .loop-test .taken in (
-      g .square .small,
-      going-falling g (l .inv) h (c .before .before .before .before .lowered .result) (c .before .before .before .before .lowered .ensures) (c .before .before .before .pulled .result)
-          (c .before .before .before .pulled .ensures) .floors-below,
-    )
+    let h = c .before .before .before .before .before .before .loop-test .taken in
+    let d = c .before .before .before .before .lowered in
+    let p = c .before .before .before .pulled in
+    (g .square .small, going-falling g (l .inv) h (d .result) (d .ensures) (p .result) (p .ensures) .floors-below)
 
 loop-less : tie.Need-loop-less Inv-loop μ-loop
 loop-less c =

@@ -27,9 +27,10 @@ numbered-requires c κs = (
 returns : tie.Need-returns
 returns c =
     let s = c .before .before .sum-of in
+    let f = c .before .before .before .before .first-stars in
+    let h = c .before .before .before .before .before .before .before .heads-of in
     rw (toZ-ofZ {w = w32} {z = s .result} (sfits-of (s .ok)))
-    (completed-whole _ _ _ (c .before .before .before .before .first-stars .result) _ _ _ (c .before .before .before .before .before .before .before .heads-of .ensures) (c .before .before .before .before .first-stars .ensures)
-    (s .ensures) (c .numbered .ensures))
+    (completed-whole _ _ _ (f .result) _ _ _ (h .ensures) (f .ensures) (s .ensures) (c .numbered .ensures))
 
 pub completed-spec : {M : Type 1} → statement M
 completed-spec = tie.close (tie.spec heads-of-requires first-stars-requires sum-of-requires numbered-requires returns)

@@ -34,7 +34,8 @@ returns : tie.Need-returns Inv-loop μ-loop
 returns c =
     let s = c .before .before .before in
     let l = c .before .before .loop in
-    climbed (s .pre .0 .square .small) (omega arith) (one-round order handed _ _ _ _ (l .inv .0) (c .before .round .ensures) (s .pre .1)) (inl (c .if1 .taken))
+    let w = one-round order handed _ _ _ _ (l .inv .0) (c .before .round .ensures) (s .pre .1) in
+    climbed (s .pre .0 .square .small) (omega arith) w (inl (c .if1 .taken))
 
 add-rounds : tie.Need-add-rounds Inv-loop μ-loop
 add-rounds c = omega (arith, c .before .before .before .pre .0 .square .small)
@@ -43,7 +44,8 @@ returns-2 : tie.Need-returns-2 Inv-loop μ-loop
 returns-2 c =
     let s = c .before .before .before .before in
     let l = c .before .before .before .loop in
-    climbed (s .pre .0 .square .small) (omega arith) (one-round order handed _ _ _ _ (l .inv .0) (c .before .before .round .ensures) (s .pre .1)) (inr (c .if2 .taken))
+    let w = one-round order handed _ _ _ _ (l .inv .0) (c .before .before .round .ensures) (s .pre .1) in
+    climbed (s .pre .0 .square .small) (omega arith) w (inr (c .if2 .taken))
 
 loop-less : tie.Need-loop-less Inv-loop μ-loop
 loop-less c = omega arith
@@ -52,7 +54,8 @@ loop-again : tie.Need-loop-again Inv-loop μ-loop
 loop-again c =
     let s = c .before .before .before .before .before in
     let l = c .before .before .before .before .loop in
-    (goes-on order handed _ _ _ _ (one-round order handed _ _ _ _ (l .inv .0) (c .before .before .before .round .ensures) (s .pre .1)) (c .before .before .if1 .left), omega arith)
+    let w = one-round order handed _ _ _ _ (l .inv .0) (c .before .before .before .round .ensures) (s .pre .1) in
+    (goes-on order handed _ _ _ _ w (c .before .before .if1 .left), omega arith)
 
 pub climb-spec : {M : Type 1} → statement M
 climb-spec =

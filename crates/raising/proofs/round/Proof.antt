@@ -4,19 +4,20 @@ use mathlib.Core.Logic.{inl, inr}
 use Prim.Native.Nat.{_-_, _≤_, _<_}
 use native.Mathlib.Omega.{arith}
 use borrow.Author.Needs.{needs}
-use lib.ListN.{length}
-use Rattle.theory.specs.Limits.{rows, order}
+use Rattle.theory.specs.Limits.{order}
 use Rattle.theory.specs.Lists.{nums}
 use Rattle.theory.specs.Table.{entry}
 use Rattle.orders.proofs.Places.{within}
 use Rattle.orders.proofs.Stores.{put-nums}
+use Rattle.orders.specs.Held.{Long}
 use Rattle.raising.specs.Rounds.{Round}
 use Rattle.raising.proofs.Steps.{round-none, round-under, round-raised, round-kept}
 use Rattle.raising.proofs.round.Statement.{statement}
 use Rattle.raising.proofs.round.Tie as tie
 
 abbrev Inv-loop : tie.InvT-loop
-Inv-loop n table column-of next₀ ended₀ i₀ next ended i = (i ≤ n) × (length next ≡ rows) × Round order n (entry table n) (nums column-of) (nums next₀) i ended (nums next)
+Inv-loop n table column-of next₀ ended₀ i₀ next ended i =
+    (i ≤ n) × Long next × Round order n (entry table n) (nums column-of) (nums next₀) i ended (nums next)
 
 abbrev μ-loop : tie.MeasureT-loop
 μ-loop n table column-of next₀ ended₀ i₀ next ended i = n - i
@@ -77,7 +78,11 @@ loop-again c =
             (round-raised order _ _ _ _ _ (s .pre .transversal) w hi (p .result) (p .ensures) (l .inv .2)
             (put-nums (l .next) _ _ (omega (arith, l .inv .1, s .pre .square .small))) (v .0 .taken)),
       )
-      | inr v ↦ (search needs, rw (v .1) (l .inv .1), rw (v .1, v .2) (round-kept order _ _ _ _ _ (s .pre .transversal) w hi (p .result) (p .ensures) (l .inv .2) (v .0 .left)))
+      | inr v ↦ (
+        search needs,
+        rw (v .1) (l .inv .1),
+        rw (v .1, v .2) (round-kept order _ _ _ _ _ (s .pre .transversal) w hi (p .result) (p .ensures) (l .inv .2) (v .0 .left)),
+      )
     ]
 
 returns : tie.Need-returns Inv-loop μ-loop

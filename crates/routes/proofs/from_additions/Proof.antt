@@ -42,8 +42,11 @@ returns-3 c =
     let e = c .before .before .before .before .before in
     let d = e .before .before .before .before in
     let b = d .before .before .before .before .before in
-    reduced-canon (b .before .before .before .pre) (b .before .held .result) (b .before .held .ensures) (b .grow .ensures .found (not-false _ (d .if1 .left))) _ _ _
-    (e .before .same .ensures .holds (not-false _ (e .if2 .left))) (b .grow .ensures .marks (not-false _ (d .if1 .left))) (c .before .before .before .lower .ensures) (c .same2 .ensures)
+    let h = b .before .held in
+    let g = b .grow .ensures in
+    let found = not-false _ (d .if1 .left) in
+    reduced-canon (b .before .before .before .pre) (h .result) (h .ensures) (g .found found) _ _ _
+    (e .before .same .ensures .holds (not-false _ (e .if2 .left))) (g .marks found) (c .before .before .before .lower .ensures) (c .same2 .ensures)
 
 pub from-additions-spec : {M : Type 1} → statement M
 from-additions-spec =

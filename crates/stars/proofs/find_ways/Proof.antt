@@ -23,7 +23,8 @@ join-requires c κs =
 loop-holds : tie.Need-loop-holds Inv-loop μ-loop
 loop-holds c =
     let p = c .before .before .before .before .pre in
-    search-start (p .0 .square .small) (p .1 .row) (record { next = p .2 .long-next; step = p .2 .long-step; queue = refl }) (p .2 .none) refl (c .join .ensures)
+    search-start (p .0 .square .small) (p .1 .row) (record { next = p .2 .long-next; step = p .2 .long-step; queue = refl }) (p .2 .none) refl
+    (c .join .ensures)
 
 mul-m : tie.Need-mul-m Inv-loop μ-loop
 mul-m c = omega (arith, queue-below (c .before .loop .inv .ways .ways), c .before .before .before .before .before .before .pre .0 .square .small)

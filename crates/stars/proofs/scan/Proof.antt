@@ -58,8 +58,9 @@ loop-again c =
       omega arith,
       omega arith,
       elim (c .if1 .came) [
-        | inl w ↦ rw (w .7, w .8, w .9, w .10) (scan-join (o .inv .2) (s .pre .0 .square .small) (omega arith) (omega arith) (w .0 .taken) (s .pre .2) (s .pre .3)
-            (w .1 .ensures .holds (w .2 .taken)) (w .6 .ensures))
+        | inl w ↦ rw (w .7, w .8, w .9, w .10)
+            (scan-join (o .inv .2) (s .pre .0 .square .small) (omega arith) (omega arith) (w .0 .taken) (s .pre .2) (s .pre .3)
+            (s .pre .1 .column (s .args .m) (s .pre .2)) (w .1 .ensures .holds (w .2 .taken)) (w .6 .ensures))
         | inr (inl w) ↦ rw (w .3, w .4, w .5, w .6) (scan-next (o .inv .2) (λ t. absurd (w .1 .ensures .fails (w .2 .left) t)))
         | inr (inr w) ↦ rw (w .1, w .2, w .3, w .4) (scan-next (o .inv .2) (λ t. omega (arith, w .0 .left)))
       ],

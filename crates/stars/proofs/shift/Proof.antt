@@ -1,9 +1,11 @@
 -- Row i takes the first column that the rows before it leave to it, and the marks are shifted along the way. Assumes nothing.
 use native.Mathlib.Omega.{arith}
 use Rattle.theory.specs.Lists.{nums}
+use Rattle.theory.specs.Limits.{rows}
 use Rattle.stars.specs.Shift.{mark-arrays}
 use Rattle.stars.proofs.Moving.{ShiftingIn, unsearched, chosen-below, move-start, move-less, move-next, move-end}
 use Rattle.stars.proofs.shift.Statement.{statement}
+use Prim.Native.Nat.{_<_}
 use Rattle.stars.proofs.shift.Tie as tie
 
 abbrev Inv-loop : tie.InvT-loop
@@ -30,15 +32,18 @@ least-column-requires c κs =
     let p = s .pre in
     (p .0, p .2, p .1 .marks .column (s .args .i) (p .2), p .1 .marks .row)
 
-mul-m : tie.Need-mul-m Inv-loop μ-loop
-mul-m c =
+-- the column chosen is one of the first n
+chosen : (c : tie.After-least-column Inv-loop μ-loop) → c .least-column .result < rows
+chosen c =
     let p = c .before .before .before .before .before .before .before .before .pre in
-    omega (arith, p .0 .square .small, chosen-below (p .0 .square .small) (p .1) (p .2) (c .before .before .before .before .find-ways .ensures) (c .least-column .ensures))
+    let ways = c .before .before .before .before .find-ways .ensures in
+    omega (arith, p .0 .square .small, chosen-below (p .0 .square .small) (p .1) (p .2) ways (c .least-column .ensures))
+
+mul-m : tie.Need-mul-m Inv-loop μ-loop
+mul-m c = omega (arith, chosen c)
 
 element-copy-out-m : tie.Need-element-copy-out-m Inv-loop μ-loop
-element-copy-out-m c =
-    let p = c .before .before .before .before .before .before .before .before .pre in
-    omega (arith, p .0 .square .small, chosen-below (p .0 .square .small) (p .1) (p .2) (c .before .before .before .before .find-ways .ensures) (c .least-column .ensures))
+element-copy-out-m c = chosen c
 
 loop-holds : tie.Need-loop-holds Inv-loop μ-loop
 loop-holds c =
@@ -90,7 +95,8 @@ loop-again c =
     let p = c .before .before .before .before .before .before .before .before .before .before .before .before .before .before .pre in
     let ways = c .before .before .before .before .before .before .before .before .before .before .find-ways .ensures in
     let chosen = c .before .before .before .before .before .before .least-column .ensures in
-    move-next (p .0 .square .small) (p .1) (p .2) ways chosen (c .before .before .before .before .loop .inv) (c .before .before .before .loop-test .taken) (c .swap .ensures)
+    move-next (p .0 .square .small) (p .1) (p .2) ways chosen (c .before .before .before .before .loop .inv)
+    (c .before .before .before .loop-test .taken) (c .swap .ensures)
 
 returns : tie.Need-returns Inv-loop μ-loop
 returns c =

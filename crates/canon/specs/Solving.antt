@@ -11,17 +11,12 @@ use Rattle.handed.specs.Conditions.{NoTransversal}
 use Rattle.outcome.specs.declared.Whole.{Whole}
 use Rattle.canon.specs.declared.Findings.{Findings}
 
--- r is the whole answer of the table t of n rows from the start, its stars numbered from 1; or it is known that no complete transversal
--- exists
-pub record SolvedFrom (t : List ℤ) (n : ℕ) (start : List ℕ) (r : Findings) : Type 0 where
-  pub solution : r .found ≡ true
-      → Solution n (entry t n) (nums start) (nums (r .additions)) (columns (r .stars)) (ints (r .heads)) (r .sum)
-  pub from-one : r .found ≡ true → (i : ℕ) → i < n → 1 ≤ nums (r .stars) i
-  pub none : r .found ≡ false → NoTransversal n t
+-- w is the whole answer of the table t of n rows from the start: additions, stars (numbered from 1), heads and sum
+pub record WholeFrom (t : List ℤ) (n : ℕ) (start : List ℕ) (w : Whole) : Type 0 where
+  pub solution : Solution n (entry t n) (nums start) (nums (w .additions)) (columns (w .stars)) (ints (w .heads)) (w .sum)
+  pub from-one : (i : ℕ) → i < n → 1 ≤ nums (w .stars) i
 
--- what was found, and what is handed out
-pub record Same (f : Findings) (w : Whole) : Type 0 where
-  pub additions : w .additions ≡ f .additions
-  pub stars : w .stars ≡ f .stars
-  pub heads : w .heads ≡ f .heads
-  pub sum : w .sum ≡ f .sum
+-- r is the whole answer from the start, or it is known that no complete transversal exists
+pub record SolvedFrom (t : List ℤ) (n : ℕ) (start : List ℕ) (r : Findings) : Type 0 where
+  pub whole : r .found ≡ true → WholeFrom t n start (r .whole)
+  pub none : r .found ≡ false → NoTransversal n t

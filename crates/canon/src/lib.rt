@@ -1,5 +1,5 @@
 ghost use Rattle.growth.specs.Grown.{Startable};
-ghost use Rattle.canon.specs.Solving.{SolvedFrom, Same};
+ghost use Rattle.canon.specs.Solving.{SolvedFrom};
 ghost use Rattle.canon.specs.Promises.{Solves, FromCanon, FromStars, Judges};
 use growth::grow;
 use handed::FirstTests;
@@ -28,18 +28,15 @@ pub enum Verdict {
     Refused(Refusal),
 }
 
-// What comes of a table and a start: whether a complete transversal exists, and then the least canon from the start with its stars
-// (columns from 1), heads and sum.
+// What comes of a table and a start: whether a complete transversal exists, and then the whole answer from the start.
 pub struct Findings {
     pub found: bool,
-    pub additions: [u32; ROWS],
-    pub stars: [u32; ROWS],
-    pub heads: [i32; ROWS],
-    pub sum: i32,
+    pub whole: Whole,
 }
 
-// The solver between the tests and the handing out, by value. Rules out a canon that is not the least from the start, stars that are
-// not the first, heads or a sum of other additions, and an answer either way that is not so.
+// The solver between the tests and the handing out: the least canon from a start with its stars, heads and sum, held by value. Rules
+// out a canon that is not the least from the start, stars that are not the first, heads or a sum of other additions, and an answer
+// either way that is not so.
 pub fn solved(n: usize, table: &[i16], start: [u32; ROWS]) -> Findings
     requires { ⌜ Startable (now table) n start ⌝ }
     ensures { λ r. ⌜ SolvedFrom (now (table .entry)) n start r ⌝ }
@@ -47,43 +44,21 @@ pub fn solved(n: usize, table: &[i16], start: [u32; ROWS]) -> Findings
     let grown = grow(n, table, start);
     let additions = grown.additions;
     if !grown.found {
-        return Findings {
-            found: false,
+        let whole = Whole {
             additions,
             stars: [0u32; ROWS],
             heads: [0i32; ROWS],
             sum: 0,
         };
+        return Findings {
+            found: false,
+            whole,
+        };
     }
     let rows = grown.rows;
     let columns = grown.columns;
     let whole = completed(n, table, additions, rows, columns);
-    let stars = whole.stars;
-    let heads = whole.heads;
-    let sum = whole.sum;
-    Findings {
-        found: true,
-        additions,
-        stars,
-        heads,
-        sum,
-    }
-}
-
-// What was found, as it is handed out. Rules out one list taken for another.
-fn whole_of(findings: Findings) -> Whole
-    ensures { λ r. ⌜ Same findings r ⌝ }
-{
-    let additions = findings.additions;
-    let stars = findings.stars;
-    let heads = findings.heads;
-    let sum = findings.sum;
-    Whole {
-        additions,
-        stars,
-        heads,
-        sum,
-    }
+    Findings { found: true, whole }
 }
 
 // Route 1: the simplest canon of a table, with stars and heads, into the lent slices. Rules out additions that are no canon, or a
@@ -107,8 +82,9 @@ pub fn solve(
     if !findings.found {
         return Answer::Refused(Refusal::NoTransversal);
     }
-    let sum = findings.sum;
-    hand_out(whole_of(findings), adds, stars, heads);
+    let whole = findings.whole;
+    let sum = whole.sum;
+    hand_out(whole, adds, stars, heads);
     Answer::Sum(sum)
 }
 

@@ -47,14 +47,11 @@ returns-2 c =
     refuse-later (passed (c .before .before .before)) 6 (inl (c .before .before .solved .ensures .none (not-true _ (c .if1 .taken)), refl)) refl
 
 -- what was found fits its types
-sum-fits : (c : tie.After-solved) → SFits w32 (c .solved .result .sum)
+sum-fits : (c : tie.After-solved) → SFits w32 (c .solved .result .whole .sum)
 sum-fits c = search needs
 
-wide : (c : tie.After-solved) → Wide (c .solved .result)
+wide : (c : tie.After-solved) → Wide (c .solved .result .whole)
 wide c = search needs
-
-whole-of-requires : tie.Need-whole-of-requires
-whole-of-requires c κs = search needs
 
 hand-out-requires : tie.Need-hand-out-requires
 hand-out-requires c κs =
@@ -74,14 +71,12 @@ same-length-3 c = search needs
 returns-3 : tie.Need-returns-3
 returns-3 c =
     let h = c .before .before .before .before .before in
-    let w = h .before .before .before .before in
-    let e = w .before .before in
+    let e = h .before .before .before .before .before .before in
     let d = e .before .before in
     let s = passed (d .before) in
-    let found = d .solved .ensures .solution (not-false _ (e .if1 .left)) in
-    found-routed (now (d .before .before .before .before .before .before .args .table)) (s .square .small) (lent (s .fitting)) (wide d) (w .whole-of .ensures)
-    (h .hand-out .ensures) (d .solved .ensures .from-one (not-false _ (e .if1 .left))) found s
-    ((λ none. none _ (found .stars .of-maxima .transversal)), tt) (ap gives (toZ-ofZ (sum-fits d)))
+    let found = d .solved .ensures .whole (not-false _ (e .if1 .left)) in
+    found-routed (s .square .small) (lent (s .fitting)) (wide d) found (h .hand-out .ensures) s
+    ((λ none. none _ (found .solution .stars .of-maxima .transversal)), tt) (ap gives (toZ-ofZ (sum-fits d)))
 
 pub solve-spec : {M : Type 1} → statement M
 solve-spec =
@@ -93,7 +88,6 @@ solve-spec =
     enum-told
     solved-requires
     returns-2
-    whole-of-requires
     hand-out-requires
     same-length
     same-length-2

@@ -1,9 +1,6 @@
 -- The least canon from a start is grown and completed. Assumes nothing.
 use borrow.Author.Needs.{needs}
 use borrow.Author.Tests.{not-true, not-false}
-use mir.Syntax.{w32}
-use mir.Val.{SFits}
-use mir.Facts.{toZ-ofZ}
 use Rattle.canon.proofs.Solving.{found-none, found-whole}
 use Rattle.canon.proofs.solved.Statement.{statement}
 use Rattle.canon.proofs.solved.Tie as tie
@@ -20,15 +17,10 @@ completed-requires c κs =
     let g = e .before .before .before .grow .ensures .found (not-false _ (e .if1 .left)) in
     record { square = e .before .before .before .before .pre .square; roomy = g .roomy; of-maxima = g .of-maxima; marks = g .marks }
 
--- what a call gave fits its types
-sum-fits : (c : tie.After-completed) → SFits w32 (c .completed .result .sum)
-sum-fits c = search needs
-
 returns-2 : tie.Need-returns-2
 returns-2 c =
-    let d = c .before .before .before in
-    let e = d .before .before .before in
-    rw (toZ-ofZ (sum-fits d)) (found-whole (e .before .before .before .grow .ensures .found (not-false _ (e .if1 .left)) .least) (d .completed .ensures))
+    let e = c .before .before .before in
+    found-whole (e .before .before .before .grow .ensures .found (not-false _ (e .if1 .left)) .least) (c .completed .ensures)
 
 pub solved-spec : {M : Type 1} → statement M
 solved-spec = tie.close (tie.spec grow-requires returns completed-requires returns-2)

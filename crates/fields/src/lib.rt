@@ -1,6 +1,7 @@
 ghost use Rattle.orders.specs.Tested.{Tells};
 ghost use Rattle.sheet.specs.Text.{Digit};
-ghost use Rattle.fields.specs.Fields.{BeforeFeed, LineIs, StartsWith, Readable, FrontIs, FieldIs, NumberIs, SignedIs, CountAfter, FrontOf, CountOf, SignedOf};
+ghost use Rattle.fields.specs.Fields.{BeforeFeed, LineIs, StartsWith, Readable, FrontIs, FieldIs, NumberIs, SignedIs};
+ghost use Rattle.fields.specs.Fields.{CountAfter, FrontOf, CountOf, SignedOf};
 ghost use Prim.Native.Nat.{_^_, _<_};
 use sheet::BLANK;
 use sheet::FEED;

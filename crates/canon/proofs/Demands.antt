@@ -15,7 +15,7 @@ use Rattle.orders.proofs.Refusals.{first-among, first-lowest, not-both}
 use Rattle.handed.specs.Conditions.{table-more, canon-more, star-more}
 use Rattle.handed.proofs.Basics.{additions-right, stars-right, table-rises, canon-rises, star-rises}
 use Rattle.canon.specs.Answers.{said}
-use Rattle.canon.specs.Demands.{Buffers, lengths, WellFormed, Route, tests, verdict-tests, numbers-of, most-addition, most-head, most-sum}
+use Rattle.canon.specs.Demands.{Buffers, lengths, WellFormed, Route, tests, verdict-tests, numbers-of}
 use Rattle.canon.specs.Demands.{Demand1, Answered, Demand2, Demand3, Numbered, Limited}
 use Rattle.canon.specs.declared.Answer.{Answer}
 use Rattle.canon.proofs.Refusing.{past-first}
@@ -154,7 +154,3 @@ module _ (n : ℕ) (t : List ℤ) where
 
   pub limited : Limited n t
   limited = record { found = λ start b b′ r s p e. result-within b′ (formed start b b′ r s p e) (result start b b′ r s p e) }
-
--- document 01's figures of these limits: 6,200, 6,300 and 3,200
-pub figures : (most-addition ≡ 6200) × (most-head ≡ 6300) × (most-sum ≡ 3200)
-figures = (refl, refl, refl)

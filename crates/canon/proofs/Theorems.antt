@@ -3,19 +3,19 @@
 use mathlib.Core.Path.{_≡_, refl, sym, _∙_, ap}
 use mathlib.Core.Bool.{Bool, true, false}
 use mathlib.Core.List.{List, [], _∷_}
-use Prim.Native.Nat.{ℕ, _-_, _*_, _≤_, _<_}
+use Prim.Native.Nat.{ℕ, _*_, _≤_, _<_}
 use native.Mathlib.Omega.{arith}
 use lib.IntN.{ℤ}
 use lib.ListN.{length}
 use lib.Seq.{ext-getD}
-use Rattle.theory.specs.Limits.{rows, order}
+use Rattle.theory.specs.Limits.{rows, order, FoundWithin}
 use Rattle.theory.specs.Lists.{nums, ints, columns, StarList}
-use Rattle.theory.specs.Table.{entry, Entries, WithinLimit}
-use Rattle.theory.specs.Canon.{Transversal, SomeTransversal, Simplest, Greatest, Misplaced, on-absent, exceeded, Solution, sum}
+use Rattle.theory.specs.Table.{entry, Entries}
+use Rattle.theory.specs.Canon.{SomeTransversal, Simplest, Greatest, Misplaced, on-absent, exceeded, Solution, sum}
 use Rattle.theory.specs.Cases.{Handed, nothing, additions, stars, Leads}
 use Rattle.theory.proofs.Signed.{signed, below-zero}
 use Rattle.theory.proofs.Unique.{least-once}
-use Rattle.theory.proofs.Bounds.{addition-bound, head-high, head-low, sum-high, sum-low}
+use Rattle.theory.proofs.Bounds as bounds
 use Rattle.theory.proofs.Decisions.{canon-known, not-less}
 use Rattle.orders.specs.Refusals.{Test, First, Clear, RightLengths, Said, gives, refuses}
 use Rattle.orders.proofs.Refusals.{first-once, first-clear, given-once, not-both, right-lengths}
@@ -26,7 +26,7 @@ use Rattle.handed.specs.Handed.{Sound}
 use Rattle.handed.proofs.Basics.{in-size, sized, entries-known, additions-known, additions-right, stars-known, stars-right}
 use Rattle.canon.specs.Answers.{said, judged}
 use Rattle.canon.specs.Promises.{Routed, refused, answered, Judges, declines, says-yes, says-no}
-use Rattle.canon.specs.Demands.{Buffers, buffers, lengths, WellFormed, Wanted, Route, tests, verdict-tests, Found}
+use Rattle.canon.specs.Demands.{Buffers, buffers, lengths, WellFormed, Wanted, Route, tests, verdict-tests}
 use Rattle.canon.specs.declared.Answer.{Answer}
 use Rattle.canon.specs.declared.Verdict.{Verdict}
 use Rattle.canon.proofs.Refusing.{past-clear}
@@ -208,25 +208,10 @@ simplest-same {n} {t} b given r long simple =
 
 -- ---- document 01's table of limits
 pub found-within : {n : ℕ} (t : List ℤ) (adds starred : List ℕ) (heads : List ℤ) {s : ℤ} → n ≤ rows → length t ≡ n * n → Entries order t
-    → Solution n (entry t n) (λ i. 0) (nums adds) (columns starred) (ints heads) s → Found n adds heads s
-found-within {n} t adds starred heads {s} few square entries sol =
-    record {
-      addition = low;
-      addition-most = λ i hi. omega (arith, low i hi);
-      head-least = λ j hj. head-low n (entry t n) w hj (sol .heads j hj);
-      head-most = λ j hj. omega (arith, signed, head-high n (entry t n) {B = 0} w (sol .additions) (λ i hi. omega arith) hj (sol .heads j hj));
-      sum-least = rw (sol .is-sum) (omega (arith, signed, sum-low n (entry t n) w tr, below-zero (n * order)));
-      sum-most = rw (sol .is-sum) (omega (arith, signed, sum-high n (entry t n) w tr));
-    }
-  where
-    w : WithinLimit order n (entry t n)
-    w = within order n t square entries
+    → Solution n (entry t n) (λ i. 0) (nums adds) (columns starred) (ints heads) s → FoundWithin n (nums adds) (ints heads) s
+found-within {n} t adds starred heads few square entries sol =
+    bounds.found-within n (entry t n) few (within order n t square entries) sol
 
-    tr : Transversal n (entry t n) (columns starred)
-    tr = sol .stars .of-maxima .transversal
-
-    low : (i : ℕ) → i < n → nums adds i ≤ (n - 1) * (2 * order)
-    low i hi = omega (arith, addition-bound n (entry t n) {B = 0} w (sol .additions) (λ i hi. omega arith) i hi)
-
-pub result-within : {n : ℕ} {t : List ℤ} {s : ℤ} (b : Buffers) → WellFormed n t → Result n t b s → Found n (b .adds) (b .heads) s
+pub result-within : {n : ℕ} {t : List ℤ} {s : ℤ} (b : Buffers) → WellFormed n t → Result n t b s
+    → FoundWithin n (nums (b .adds)) (ints (b .heads)) s
 result-within {t = t} b w r = found-within t (b .adds) (b .stars) (b .heads) (w .few) (w .square) (w .entries) (r .solution)

@@ -5,11 +5,10 @@ use mathlib.Core.Path.{_≡_}
 use mathlib.Core.Logic.{_≢_}
 use mathlib.Core.Bool.{true, false}
 use mathlib.Core.List.{List, [], _∷_}
-use Prim.Native.Nat.{ℕ, _+_, _-_, _*_, _≤_, _<_}
-use lib.IntN.{ℤ, pos, negℤ}
+use Prim.Native.Nat.{ℕ, _*_, _≤_, _<_}
+use lib.IntN.{ℤ}
 use lib.ListN.{length}
-use lib.Signed.{_≤ℤ_}
-use Rattle.theory.specs.Limits.{rows, order, handed}
+use Rattle.theory.specs.Limits.{rows, order, handed, FoundWithin}
 use Rattle.theory.specs.Lists.{nums, ints, columns, StarList}
 use Rattle.theory.specs.Table.{entry, Entries}
 use Rattle.theory.specs.Canon.{SomeTransversal, NoTransversal, Canon, Simplest, Heads, Stars, Balance}
@@ -157,26 +156,7 @@ pub record Numbered (n : ℕ) (t : List ℤ) : Type 0 where
       → Among (numbers-of (additions given)) k
 
 -- ---- document 01, the table of limits: what is found
-abbrev pub most-addition : ℕ
-most-addition = (rows - 1) * (2 * order)
-
-abbrev pub most-head : ℕ
-most-head = most-addition + order
-
-abbrev pub most-sum : ℕ
-most-sum = rows * order
-
-pub record Found (n : ℕ) (adds : List ℕ) (heads : List ℤ) (s : ℤ) : Type 0 where
-  -- "addition found: at most (N − 1) × 200, so 6,200"
-  pub addition : (i : ℕ) → i < n → nums adds i ≤ (n - 1) * (2 * order)
-  pub addition-most : (i : ℕ) → i < n → nums adds i ≤ most-addition
-  -- "column maximum found: −100 to 6,300"
-  pub head-least : (j : ℕ) → j < n → negℤ (pos order) ≤ℤ ints heads j
-  pub head-most : (j : ℕ) → j < n → ints heads j ≤ℤ pos most-head
-  -- "sum: −3,200 to 3,200, signed"
-  pub sum-least : negℤ (pos most-sum) ≤ℤ s
-  pub sum-most : s ≤ℤ pos most-sum
-
--- every route keeps them
+-- every route keeps within it
 pub record Limited (n : ℕ) (t : List ℤ) : Type 0 where
-  pub found : (start : Handed) (b b′ : Buffers) (r : Answer) (s : ℤ) → Route n t start b r b′ → said r ≡ gives s → Found n (b′ .adds) (b′ .heads) s
+  pub found : (start : Handed) (b b′ : Buffers) (r : Answer) (s : ℤ) → Route n t start b r b′ → said r ≡ gives s
+      → FoundWithin n (nums (b′ .adds)) (ints (b′ .heads)) s

@@ -8,7 +8,7 @@ use lib.IntN.{ℤ}
 use lib.ListN.{length}
 use Rattle.theory.specs.Lists.{columns}
 use Rattle.theory.specs.Table.{entry}
-use Rattle.theory.specs.Cases.{Handed, nothing, additions, stars, Leads}
+use Rattle.theory.specs.Cases.{Handed, nothing, additions, stars, Answerable}
 use Rattle.theory.proofs.Duality.{balance}
 use Rattle.orders.specs.Refusals.{numbers, Rising, Among, gives, refuses}
 use Rattle.orders.proofs.Refusals.{first-among, first-lowest, not-both}
@@ -61,7 +61,7 @@ module _ (n : ℕ) (t : List ℤ) where
     formed : WellFormed n t
     formed = clear-formed n t start b (routed-result b b′ (routes n t start b b′ r p) s e .0)
 
-    leads : Leads n (entry t n) start
+    leads : Answerable n (entry t n) start
     leads = clear-leads n t start b (routed-result b b′ (routes n t start b b′ r p) s e .0)
 
     answer : Answered n t b′
@@ -76,7 +76,7 @@ module _ (n : ℕ) (t : List ℤ) where
         }
 
     -- the additions that were written are themselves a canon within the limit of additions handed in
-    written-leads : Leads n (entry t n) (additions (b′ .adds))
+    written-leads : Answerable n (entry t n) (additions (b′ .adds))
     written-leads = (
       result .adds-long,
       λ i hi. omega (arith, result-within b′ formed result .addition-most i hi),

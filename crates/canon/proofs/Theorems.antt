@@ -8,11 +8,11 @@ use native.Mathlib.Omega.{arith}
 use lib.IntN.{ℤ}
 use lib.ListN.{length}
 use lib.Seq.{ext-getD}
-use Rattle.theory.specs.Limits.{rows, order, FoundWithin}
+use Rattle.theory.specs.Limits.{row-limit, order-limit, FoundWithin}
 use Rattle.theory.specs.Lists.{nums, ints, columns, StarList}
 use Rattle.theory.specs.Table.{entry, Entries}
 use Rattle.theory.specs.Canon.{SomeTransversal, Simplest, Greatest, Misplaced, on-absent, exceeded, Solution, sum}
-use Rattle.theory.specs.Cases.{Handed, nothing, additions, stars, Leads}
+use Rattle.theory.specs.Cases.{Handed, nothing, additions, stars, Answerable}
 use Rattle.theory.proofs.Signed.{signed, below-zero}
 use Rattle.theory.proofs.Unique.{least-once}
 use Rattle.theory.proofs.Bounds as bounds
@@ -134,7 +134,7 @@ module _ (n : ℕ) (t : List ℤ) where
   clear-formed (additions l) b clear = sound-formed (sound-clear (length l ∷ lengths b) (canon-more n t l) clear)
   clear-formed (stars s) b clear = sound-formed (sound-clear (length s ∷ lengths b) (star-more n t s) clear)
 
-  pub clear-leads : (start : Handed) (b : Buffers) → Clear (tests n t start b) → Leads n (entry t n) start
+  pub clear-leads : (start : Handed) (b : Buffers) → Clear (tests n t start b) → Answerable n (entry t n) start
   clear-leads nothing b clear = tt
   clear-leads (additions l) b clear =
       let long = sound-clear (length l ∷ lengths b) (canon-more n t l) clear .fitting .0 in (
@@ -147,7 +147,7 @@ module _ (n : ℕ) (t : List ℤ) where
       (list, placed-greatest n t s list (clear .1 .1 .1 .1 .1 .0))
 
   -- and the other way
-  canon-passed : (l : List ℕ) → Leads n (entry t n) (additions l) → Clear (canon-more n t l)
+  canon-passed : (l : List ℕ) → Answerable n (entry t n) (additions l) → Clear (canon-more n t l)
   canon-passed l g = (
     additions-right (λ i hi. g .1 i (omega (arith, g .0))),
     ((λ none. none (g .2 .columns) (g .2 .of-maxima .transversal)), ((λ f. f (g .2)), tt)),
@@ -157,15 +157,15 @@ module _ (n : ℕ) (t : List ℤ) where
     pub alone-clear : SomeTransversal n (entry t n) → Clear (tests n t nothing b)
     alone-clear e = past-clear (formed-sound (lengths b) w (own-lengths b f)) (table-more n t) ((λ none. none (e .0) (e .1)), tt)
 
-    pub canon-clear : (l : List ℕ) → Leads n (entry t n) (additions l) → Clear (tests n t (additions l) b)
+    pub canon-clear : (l : List ℕ) → Answerable n (entry t n) (additions l) → Clear (tests n t (additions l) b)
     canon-clear l g = past-clear (formed-sound (length l ∷ lengths b) w (g .0, own-lengths b f)) (canon-more n t l) (canon-passed l g)
 
-    pub greatest-clear : (s : List ℕ) → Leads n (entry t n) (stars s) → Clear (tests n t (stars s) b)
+    pub greatest-clear : (s : List ℕ) → Answerable n (entry t n) (stars s) → Clear (tests n t (stars s) b)
     greatest-clear s g =
         past-clear (formed-sound (length s ∷ lengths b) w (g .0 .long, own-lengths b f)) (star-more n t s)
         (stars-right (g .0), ((λ none. none (columns s) (g .1 .transversal)), (well-placed (g .1), tt)))
 
-  pub verdict-clear : WellFormed n t → (given : List ℕ) → Leads n (entry t n) (additions given) → Clear (verdict-tests n t given)
+  pub verdict-clear : WellFormed n t → (given : List ℕ) → Answerable n (entry t n) (additions given) → Clear (verdict-tests n t given)
   verdict-clear w given g = past-clear (formed-sound (length given ∷ []) w (g .0, tt)) (canon-more n t given) (canon-passed given g)
 
 -- ---- the yes-or-no
@@ -207,10 +207,10 @@ simplest-same {n} {t} b given r long simple =
     ext-getD 0 given (b .adds) (long ∙ sym (r .adds-long)) (λ i hi. least-once n (entry t n) simple (r .solution .additions) i (omega arith))
 
 -- ---- document 01's table of limits
-pub found-within : {n : ℕ} (t : List ℤ) (adds starred : List ℕ) (heads : List ℤ) {s : ℤ} → n ≤ rows → length t ≡ n * n → Entries order t
+pub found-within : {n : ℕ} (t : List ℤ) (adds starred : List ℕ) (heads : List ℤ) {s : ℤ} → n ≤ row-limit → length t ≡ n * n → Entries order-limit t
     → Solution n (entry t n) (λ i. 0) (nums adds) (columns starred) (ints heads) s → FoundWithin n (nums adds) (ints heads) s
 found-within {n} t adds starred heads few square entries sol =
-    bounds.found-within n (entry t n) few (within order n t square entries) sol
+    bounds.found-within n (entry t n) few (within order-limit n t square entries) sol
 
 pub result-within : {n : ℕ} {t : List ℤ} {s : ℤ} (b : Buffers) → WellFormed n t → Result n t b s
     → FoundWithin n (nums (b .adds)) (ints (b .heads)) s

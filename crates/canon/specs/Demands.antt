@@ -8,11 +8,11 @@ use mathlib.Core.List.{List, [], _∷_}
 use Prim.Native.Nat.{ℕ, _*_, _≤_, _<_}
 use lib.IntN.{ℤ}
 use lib.ListN.{length}
-use Rattle.theory.specs.Limits.{rows, order, handed, FoundWithin}
+use Rattle.theory.specs.Limits.{row-limit, order-limit, addition-limit, FoundWithin}
 use Rattle.theory.specs.Lists.{nums, ints, columns, StarList}
 use Rattle.theory.specs.Table.{entry, Entries}
 use Rattle.theory.specs.Canon.{SomeTransversal, NoTransversal, Canon, Simplest, Heads, Stars, Balance}
-use Rattle.theory.specs.Cases.{Handed, nothing, additions, stars, Leads}
+use Rattle.theory.specs.Cases.{Handed, nothing, additions, stars, Answerable}
 use Rattle.orders.specs.Refusals.{Test, Applies, First, Among, due, Proper, gives, refuses}
 use Rattle.handed.specs.Conditions.{TooLarge, WrongStars, NoCanon, NotGreatest, table-tests, canon-tests, star-tests}
 use Rattle.canon.specs.Answers.{said, judged}
@@ -36,9 +36,9 @@ lengths b = length (b .adds) ∷ length (b .stars) ∷ length (b .heads) ∷ []
 -- "a well-formed table"
 pub record WellFormed (n : ℕ) (t : List ℤ) : Type 0 where
   pub some : 1 ≤ n
-  pub few : n ≤ rows
+  pub few : n ≤ row-limit
   pub square : length t ≡ n * n
-  pub entries : Entries order t
+  pub entries : Entries order-limit t
 
 -- "in slices of the wanted length"
 pub record Wanted (n : ℕ) (b : Buffers) : Type 0 where
@@ -88,24 +88,24 @@ pub record Answered (n : ℕ) (t : List ℤ) (b : Buffers) : Type 0 where
 pub record Demand2 (n : ℕ) (t : List ℤ) : Type 0 where
   pub answered : (start : Handed) (b b′ : Buffers) (r : Answer) (s : ℤ) → Route n t start b r b′ → said r ≡ gives s → Answered n t b′
   -- "Any canon within the stated limit, or any transversal of greatest sum, leads": what is handed in so is answered,
-  pub canon-leads : (l : List ℕ) (b b′ : Buffers) (r : Answer) → WellFormed n t → Wanted n b → Leads n (entry t n) (additions l)
+  pub canon-leads : (l : List ℕ) (b b′ : Buffers) (r : Answer) → WellFormed n t → Wanted n b → Answerable n (entry t n) (additions l)
       → Route n t (additions l) b r b′ → (s : ℤ) × (said r ≡ gives s)
-  pub greatest-leads : (s : List ℕ) (b b′ : Buffers) (r : Answer) → WellFormed n t → Wanted n b → Leads n (entry t n) (stars s)
+  pub greatest-leads : (s : List ℕ) (b b′ : Buffers) (r : Answer) → WellFormed n t → Wanted n b → Answerable n (entry t n) (stars s)
       → Route n t (stars s) b r b′ → (s : ℤ) × (said r ≡ gives s)
   -- "to the same answer": whatever was handed in and lent, two routes that answer return the same and write the same
   pub same-answer : (start other : Handed) (b b′ c c′ : Buffers) (r q : Answer) (x y : ℤ) → Route n t start b r b′ → said r ≡ gives x
       → Route n t other c q c′ → said q ≡ gives y → (r ≡ q) × (b′ ≡ c′)
   -- "other starts are refused": what is answered was a canon within the limit, or a transversal of greatest sum,
   pub only-these-lead : (start : Handed) (b b′ : Buffers) (r : Answer) (s : ℤ) → Route n t start b r b′ → said r ≡ gives s
-      → Leads n (entry t n) start
+      → Answerable n (entry t n) start
   -- so all else is refused, and the lent buffers hold what they held
-  pub others-refused : (start : Handed) (b b′ : Buffers) (r : Answer) → (Leads n (entry t n) start → ⊥) → Route n t start b r b′
+  pub others-refused : (start : Handed) (b b′ : Buffers) (r : Answer) → (Answerable n (entry t n) start → ⊥) → Route n t start b r b′
       → (k : ℕ) × (said r ≡ refuses k []) × (b′ ≡ b)
   -- in slices of the wanted length: additions by 4 if one is above the limit, and by 7 if they are no canon though a transversal exists,
   pub too-large-refused : (l : List ℕ) (b b′ : Buffers) (r : Answer) → WellFormed n t → Wanted n b → length l ≡ n → TooLarge l
       → Route n t (additions l) b r b′ → (said r ≡ refuses 4 []) × (b′ ≡ b)
   pub no-canon-refused : (l : List ℕ) (b b′ : Buffers) (r : Answer) → WellFormed n t → Wanted n b → SomeTransversal n (entry t n) → length l ≡ n
-      → ((i : ℕ) → i < n → nums l i ≤ handed) → NoCanon n t l → Route n t (additions l) b r b′ → (said r ≡ refuses 7 []) × (b′ ≡ b)
+      → ((i : ℕ) → i < n → nums l i ≤ addition-limit) → NoCanon n t l → Route n t (additions l) b r b′ → (said r ≡ refuses 7 []) × (b′ ≡ b)
   -- stars by 5 if one is outside 1 to N or given twice, and by 8 if one is on an absent place or their sum is not the greatest
   pub wrong-stars-refused : (s : List ℕ) (b b′ : Buffers) (r : Answer) → WellFormed n t → Wanted n b → length s ≡ n → WrongStars n s
       → Route n t (stars s) b r b′ → (said r ≡ refuses 5 []) × (b′ ≡ b)
@@ -119,7 +119,7 @@ pub record Demand2 (n : ℕ) (t : List ℤ) : Type 0 where
       → Judges n t given v → judged v ≡ gives true → given ≡ b′ .adds
   -- and no to every other canon within the limit
   pub no-to-others : (start : Handed) (b b′ : Buffers) (r : Answer) (s : ℤ) (given : List ℕ) (v : Verdict) → Route n t start b r b′ → said r ≡ gives s
-      → Leads n (entry t n) (additions given) → given ≢ b′ .adds → Judges n t given v → judged v ≡ gives false
+      → Answerable n (entry t n) (additions given) → given ≢ b′ .adds → Judges n t given v → judged v ≡ gives false
 
 -- "Taken alone, a well-formed table, in slices of the wanted length, is refused exactly when no complete transversal of present orders
 -- exists. Otherwise the sum is the column maxima less the additions, no complete transversal has a greater one, and one reaches it

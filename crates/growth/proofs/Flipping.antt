@@ -9,7 +9,7 @@ use lib.Dec.{T}
 use lib.IntN.{ℤ}
 use Rattle.growth.specs.Growing.{Tight, Marking, WayBack}
 use Rattle.orders.proofs.Stores.{Put, after}
-use Rattle.theory.specs.Limits.{rows}
+use Rattle.theory.specs.Limits.{row-limit}
 use Rattle.theory.specs.Totals.{totalℕ}
 use Rattle.theory.proofs.Pigeonhole.{choose, choose-yes, choose-no}
 use Rattle.theory.proofs.Totals.{total-change}
@@ -113,14 +113,14 @@ module _ {n : ℕ} {a : ℕ → ℕ → ℤ} {s : ℕ} {l : ℕ → ℕ} {h : �
 
 -- ---- how many places of an array are as they were: the measure of the way back
 pub still-same : (ℕ → ℕ) → (ℕ → ℕ) → ℕ
-still-same f f′ = totalℕ rows (λ x. choose (ℕ-discrete (f′ x) (f x)) 1 0)
+still-same f f′ = totalℕ row-limit (λ x. choose (ℕ-discrete (f′ x) (f x)) 1 0)
 
-pub same-fewer : (f : ℕ → ℕ) {g g′ : ℕ → ℕ} {k v : ℕ} → k < rows → Put g g′ k v → g k ≡ f k → v ≢ f k → still-same f g′ < still-same f g
+pub same-fewer : (f : ℕ → ℕ) {g g′ : ℕ → ℕ} {k v : ℕ} → k < row-limit → Put g g′ k v → g k ≡ f k → v ≢ f k → still-same f g′ < still-same f g
 unfolding still-same
 same-fewer f {g} {g′} {k} {v} h p e ne =
     omega (
       arith,
-      total-change rows (λ x. choose (ℕ-discrete (g x) (f x)) 1 0) (λ x. choose (ℕ-discrete (g′ x) (f x)) 1 0) k h
+      total-change row-limit (λ x. choose (ℕ-discrete (g x) (f x)) 1 0) (λ x. choose (ℕ-discrete (g′ x) (f x)) 1 0) k h
           (λ x hx nx. ap (λ (y : ℕ). choose (ℕ-discrete y (f x)) 1 0) (p .off x nx)),
       choose-yes (ℕ-discrete (g k) (f k)) 1 0 e,
       choose-no (ℕ-discrete (g′ k) (f k)) 1 0 (λ q. ne (sym (p .at) ∙ q)),

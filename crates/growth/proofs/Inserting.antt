@@ -9,7 +9,7 @@ use lib.Dec.{T, eqb, eqb→eq, eqb-refl}
 use lib.IntN.{ℤ, pos}
 use lib.ListN.{set, length-set, replicate, getD-replicate}
 use lib.Signed.{mag}
-use Rattle.theory.specs.Limits.{rows, order, handed}
+use Rattle.theory.specs.Limits.{row-limit, order-limit, addition-limit}
 use Rattle.theory.specs.Lists.{nums, ints, flags}
 use Rattle.theory.specs.Table.{entry}
 use Rattle.theory.specs.Canon.{OfMaxima, Heads, NoTransversal}
@@ -36,36 +36,36 @@ pub record Searching (t : List ℤ) (n : ℕ) (start : ℕ → ℕ) (s : ℕ) (l
     (tree reached : List Bool) (gaps givers : List ℕ) (row : ℕ) : Type 0 where
   pub inside : row < n
   pub long : Long l × Long h × Long gaps × Long givers × Long tree × Long reached
-  pub search : Search n (entry t n) start s (handed + s * insertion-rise) (nums l) (ints h) (nums ρ) (nums κ)
+  pub search : Search n (entry t n) start s (addition-limit + s * insertion-rise) (nums l) (ints h) (nums ρ) (nums κ)
       (flags tree) (flags (set tree row true)) (flags reached) (nums gaps) (nums givers)
 
 module _ {t : List ℤ} {n : ℕ} {start : ℕ → ℕ} {s : ℕ} {l₀ : List ℕ} {h₀ : List ℤ} {ρ κ : List ℕ} (rd : Ready t n start s l₀ h₀ ρ κ) (hs : s < n) where
-  setting : Setting n (entry t n) start s (handed + s * insertion-rise)
+  setting : Setting n (entry t n) start s (addition-limit + s * insertion-rise)
   setting =
       record { small = rd .square .small; inserting = hs; limits = rd .orders; handed-in = λ i hi. omega (arith, rd .handed-in i hi) }
 
   pub begin : Long l₀ → Long h₀ → {givers : List ℕ} → Long givers
-      → Searching t n start s l₀ h₀ ρ κ (replicate rows false) (replicate rows false) (replicate rows no-gap) givers s
+      → Searching t n start s l₀ h₀ ρ κ (replicate row-limit false) (replicate row-limit false) (replicate row-limit no-gap) givers s
   begin el eh eg =
       record {
         inside = hs;
         long = (el, eh, refl, eg, refl, refl);
         search =
-            search-start setting (rd .growing) (rd .top) (λ i hi. getD-replicate rows i false false (omega (arith, rd .square .small)))
-            (λ j hj. getD-replicate rows j false false (omega (arith, rd .square .small)))
-            (λ j hj. getD-replicate {A = ℕ} rows j no-gap 0 (omega (arith, rd .square .small)))
-            (put-flags (replicate rows false) s true (omega (arith, rd .square .small)));
+            search-start setting (rd .growing) (rd .top) (λ i hi. getD-replicate row-limit i false false (omega (arith, rd .square .small)))
+            (λ j hj. getD-replicate row-limit j false false (omega (arith, rd .square .small)))
+            (λ j hj. getD-replicate {A = ℕ} row-limit j no-gap 0 (omega (arith, rd .square .small)))
+            (put-flags (replicate row-limit false) s true (omega (arith, rd .square .small)));
       }
 
   module _ {l : List ℕ} {h : List ℤ} {tree reached : List Bool} {gaps givers : List ℕ} {row : ℕ}
       (o : Searching t n start s l h ρ κ tree reached gaps givers row) where
-    addition-under : (i : ℕ) → i < n → nums l i ≤ handed + s * insertion-rise + insertion-rise
+    addition-under : (i : ℕ) → i < n → nums l i ≤ addition-limit + s * insertion-rise + insertion-rise
     addition-under i hi =
         let w = o .search .heights in
         by-flag (flags (set tree row true) i) (λ e. w .inside i hi (flag-set e)) (λ e. omega (arith, w .outside i hi e))
 
     -- a head is the raised order of a marked place, or one of the start
-    head-under : (j : ℕ) → j < n → mag (ints h j) ≤ ceiling + order
+    head-under : (j : ℕ) → j < n → mag (ints h j) ≤ ceiling + order-limit
     head-under j hj =
         let w = o .search .growing in
         elim (decLt (nums ρ j) n) [
@@ -74,13 +74,13 @@ module _ {t : List ℤ} {n : ℕ} {start : ℕ → ℕ} {s : ℕ} {l₀ : List �
               let v = rd .orders (nums ρ j) j m hj (k .present) in
               let top = addition-under (nums ρ j) m in
               let p = plus (entry t n (nums ρ j) j) (pos (nums l (nums ρ j))) in
-              mag-small (ints h j) (ceiling + order) (omega (arith, signed, k .is, v .high, top, p, rd .square .small))
+              mag-small (ints h j) (ceiling + order-limit) (omega (arith, signed, k .is, v .high, top, p, rd .square .small))
               (omega (arith, signed, k .is, v .low, p))
           | no nm ↦
               let f = w .first j hj (omega arith) in
               let v = rd .orders (f .row) j (f .inside) hj (f .maximum .present) in
               let p = plus (entry t n (f .row) j) (pos (start (f .row))) in
-              mag-small (ints h j) (ceiling + order) (omega (arith, signed, f .is, v .high, rd .handed-in (f .row) (f .inside), p))
+              mag-small (ints h j) (ceiling + order-limit) (omega (arith, signed, f .is, v .high, rd .handed-in (f .row) (f .inside), p))
               (omega (arith, signed, f .is, v .low, p))
         ]
 
@@ -99,7 +99,7 @@ module _ {t : List ℤ} {n : ℕ} {start : ℕ → ℕ} {s : ℕ} {l₀ : List �
         }
 
     module _ {g p : List ℕ} {r : LeastGap} (k : LookedAt t n n row l h reached gaps givers g p r) where
-      looked : Search n (entry t n) start s (handed + s * insertion-rise) (nums l) (ints h) (nums ρ) (nums κ) (flags (set tree row true))
+      looked : Search n (entry t n) start s (addition-limit + s * insertion-rise) (nums l) (ints h) (nums ρ) (nums κ) (flags (set tree row true))
           (flags (set tree row true)) (flags reached) (nums g) (nums p)
       looked =
           search-look setting (o .search) (o .inside) (put-flags tree row true (omega (arith, o .inside, o .long .4, rd .square .small))) (k .ways) (k .kept)
@@ -126,7 +126,7 @@ module _ {t : List ℤ} {n : ℕ} {start : ℕ → ℕ} {s : ℕ} {l₀ : List �
             }
 
         module _ {l′ : List ℕ} {h′ : List ℤ} {g′ : List ℕ} (v : RisenBy n (r .gap) (set tree row true) reached l h g l′ h′ g′) where
-          risen : Search n (entry t n) start s (handed + s * insertion-rise) (nums l′) (ints h′) (nums ρ) (nums κ) (flags (set tree row true))
+          risen : Search n (entry t n) start s (addition-limit + s * insertion-rise) (nums l′) (ints h′) (nums ρ) (nums κ) (flags (set tree row true))
               (flags (set tree row true)) (flags reached) (nums g′) (nums p)
           risen =
               let c = k .column lt in
@@ -218,15 +218,15 @@ inserted {t} {n} rd {l} {h} m f =
 
 -- ---- before the first insertion
 pub first-ready : {t : List ℤ} {n : ℕ} {start : List ℕ} {h : List ℤ} → Startable t n start → Heads n (entry t n) (nums start) (ints h)
-    → Ready t n (nums start) 0 start h (replicate rows rows) (replicate rows rows)
+    → Ready t n (nums start) 0 start h (replicate row-limit row-limit) (replicate row-limit row-limit)
 first-ready {t} {n} {start} {h} c heads =
     record {
       square = c .square;
-      orders = within order n t (c .square .square) (c .entries);
+      orders = within order-limit n t (c .square .square) (c .entries);
       handed-in = c .handed-in;
       growing = record {
         marking = record {
-          row = λ j hj m. absurd (omega (arith, getD-replicate {A = ℕ} rows j rows 0 (omega (arith, c .square .small)), c .square .small));
+          row = λ j hj m. absurd (omega (arith, getD-replicate {A = ℕ} row-limit j row-limit 0 (omega (arith, c .square .small)), c .square .small));
           column = λ i hi. absurd (omega arith);
         };
         under = λ i j hi hj here.

@@ -9,7 +9,7 @@ use native.Mathlib.Omega.{arith}
 use lib.Dec.{T}
 use lib.IntN.{ℤ, pos, _+ℤ_}
 use lib.Signed.{_≤ℤ_}
-use Rattle.theory.specs.Limits.{rows, order}
+use Rattle.theory.specs.Limits.{row-limit, order-limit}
 use Rattle.theory.specs.Table.{Present, WithinLimit}
 use Rattle.theory.specs.Canon.{Transversal}
 use Rattle.theory.proofs.Pigeonhole.{choose, choose-yes, choose-no}
@@ -34,7 +34,7 @@ pub record Heights (n s b : ℕ) (l : ℕ → ℕ) (tree reached : ℕ → Bool)
   pub spread : ℕ
   pub above : (i : ℕ) → i < n → T (tree i) → l i ≤ l s + spread
   pub below : (i : ℕ) → i < n → T (tree i) → l s ≤ l i + spread
-  pub fits : spread + 2 * order * unset n reached ≤ 2 * order * n
+  pub fits : spread + 2 * order-limit * unset n reached ≤ 2 * order-limit * n
 
 -- An insertion of row s under way: of the tree's rows the gaps have taken in those seen.
 pub record Search (n : ℕ) (a : ℕ → ℕ → ℤ) (start : ℕ → ℕ) (s b : ℕ) (l : ℕ → ℕ) (h : ℕ → ℤ) (ρ κ : ℕ → ℕ)
@@ -47,9 +47,9 @@ pub record Search (n : ℕ) (a : ℕ → ℕ → ℤ) (start : ℕ → ℕ) (s b
 
 -- what does not change while rows are inserted
 pub record Setting (n : ℕ) (a : ℕ → ℕ → ℤ) (start : ℕ → ℕ) (s b : ℕ) : Type 0 where
-  pub small : n ≤ rows
+  pub small : n ≤ row-limit
   pub inserting : s < n
-  pub limits : WithinLimit order n a
+  pub limits : WithinLimit order-limit n a
   pub handed-in : (i : ℕ) → i < n → start i ≤ b
 
 -- a flag that is set stays set, and the new one is set
@@ -169,7 +169,7 @@ module _ {n : ℕ} {a : ℕ → ℕ → ℤ} {start : ℕ → ℕ} {s b : ℕ} {
       row-outside : (j : ℕ) → j < n → reached j ≡ false → ρ j < n → tree (ρ j) ≡ false
       row-outside j hj r m = by-flag (tree (ρ j)) (λ t. flag-clash (w .grown .column j hj m (flag-set t)) r) (λ f. f)
 
-      head-low : (j : ℕ) → j < n → reached j ≡ false → h j ≤ℤ pos (b + order)
+      head-low : (j : ℕ) → j < n → reached j ≡ false → h j ≤ℤ pos (b + order-limit)
       head-low j hj r =
           elim (decLt (ρ j) n) [
             | yes m ↦
@@ -195,7 +195,7 @@ module _ {n : ℕ} {a : ℕ → ℕ → ℤ} {start : ℕ → ℕ} {s b : ℕ} {
           ]
 
       -- the row that gives the least gap comes no higher than that, so no row of the tree does by more than their spread
-      pub rise-most : l (giver e) + δ ≤ b + 2 * order
+      pub rise-most : l (giver e) + δ ≤ b + 2 * order-limit
       rise-most =
           omega (
             arith,
@@ -512,7 +512,7 @@ module _ {n : ℕ} {a : ℕ → ℕ → ℤ} {start : ℕ → ℕ} {s b : ℕ} {
           }
 
       -- the row that joins is tight in one column with the giver, so their additions differ by two orders at most
-      near : (l (ρ e) ≤ l (giver e) + 2 * order) × (l (giver e) ≤ l (ρ e) + 2 * order)
+      near : (l (ρ e) ≤ l (giver e) + 2 * order-limit) × (l (giver e) ≤ l (ρ e) + 2 * order-limit)
       near =
           let k = w .growing .marking .row e he m .2 in
           let x = c .limits (ρ e) e m he (k .present) in
@@ -537,12 +537,12 @@ module _ {n : ℕ} {a : ℕ → ℕ → ℤ} {start : ℕ → ℕ} {s b : ℕ} {
             inside = λ i hi.
                 after (λ x y. T y → l x ≤ b + insertion-rise) pt i (λ q t. omega (arith, w .heights .outside (ρ e) m outside))
                 (λ ne t. w .heights .inside i hi t);
-            spread = w .heights .spread + 2 * order;
+            spread = w .heights .spread + 2 * order-limit;
             above = λ i hi.
-                after (λ x y. T y → l x ≤ l s + (w .heights .spread + 2 * order)) pt i
+                after (λ x y. T y → l x ≤ l s + (w .heights .spread + 2 * order-limit)) pt i
                 (λ q t. omega (arith, near .0, w .heights .above (giver e) (meets .0) (meets .1))) (λ ne t. omega (arith, w .heights .above i hi t));
             below = λ i hi.
-                after (λ x y. T y → l s ≤ l x + (w .heights .spread + 2 * order)) pt i
+                after (λ x y. T y → l s ≤ l x + (w .heights .spread + 2 * order-limit)) pt i
                 (λ q t. omega (arith, near .1, w .heights .below (giver e) (meets .0) (meets .1))) (λ ne t. omega (arith, w .heights .below i hi t));
             fits = omega (arith, w .heights .fits, unset-fewer n he re pr);
           }

@@ -12,7 +12,7 @@ use lib.Signed.{mag}
 use mir.Syntax.{w32}
 use mir.Val.{SFits}
 use Rattle.theory.specs.Lists.{nums, ints, flags}
-use Rattle.theory.specs.Limits.{rows, order}
+use Rattle.theory.specs.Limits.{row-limit, order-limit}
 use Rattle.theory.specs.Table.{entry}
 use Rattle.theory.specs.Canon.{Head, NoTransversal}
 use Rattle.theory.proofs.Pigeonhole.{onto}
@@ -26,7 +26,7 @@ use Rattle.growth.specs.declared.LeastGap.{LeastGap}
 use Rattle.growth.specs.Steps.{no-gap, Nearer, Lesser, LookedAt, share, Narrowed, Rising, RisenBy}
 
 -- a head that is small enough fits
-pub head-fits : (h : ℤ) → mag h ≤ ceiling + order → SFits w32 h
+pub head-fits : (h : ℤ) → mag h ≤ ceiling + order-limit → SFits w32 h
 head-fits h small = omega (arith, signed, mag-up h, mag-dn h)
 
 -- ---- the least gap
@@ -80,7 +80,7 @@ module _ {t : List ℤ} {n row : ℕ} {l : List ℕ} {h : List ℤ} {reached : L
               | no ne ↦ omega arith
             ]
 
-    module _ (small : k < rows) (e : flags reached k ≡ false) (g₁ p₁ : ℕ) (b₁ : LeastGap)
+    module _ (small : k < row-limit) (e : flags reached k ≡ false) (g₁ p₁ : ℕ) (b₁ : LeastGap)
         (near : Nearer (entry t n row k) (nums l row) (ints h k) row (nums g k) (nums p k) g₁ p₁) (less : Lesser b g₁ k b₁) where
       put-gap : Put (nums g) (nums (set g k g₁)) k g₁
       put-gap = put-nums g k g₁ (omega (arith, w .looked .long .0))
@@ -171,13 +171,13 @@ module _ {δ : ℕ} {tree reached : List Bool} {l : List ℕ} {h : List ℤ} {ga
     pub rise-add : {u : ℕ} → u ≤ δ → nums l′ k + u ≤ 3 * ceiling
     rise-add le = omega (arith, w .rest k (omega arith) .0, r .additions k inside, r .rise)
 
-    pub rise-head : mag (ints h′ k) ≤ ceiling + order
+    pub rise-head : mag (ints h′ k) ≤ ceiling + order-limit
     rise-head = rw (w .rest k (omega arith) .1) (r .heads k inside)
 
     pub rise-gap : nums g′ k < no-gap → δ ≤ nums g′ k
     rise-gap = rw (w .rest k (omega arith) .2) (r .gap k inside)
 
-  module _ {k : ℕ} {l′ : List ℕ} {h′ : List ℤ} {g′ : List ℕ} (w : RisenTo k δ tree reached l h gaps l′ h′ g′) (small : k < rows)
+  module _ {k : ℕ} {l′ : List ℕ} {h′ : List ℤ} {g′ : List ℕ} (w : RisenTo k δ tree reached l h gaps l′ h′ g′) (small : k < row-limit)
       {u : ℕ} {v : ℤ} {d : ℕ} (eu : u ≡ share δ (flags tree k)) (ev : v ≡ ints h′ k +ℤ pos (share δ (flags reached k))) (ed : Narrowed δ (nums g′ k) d) where
     pub rise-step : RisenTo (k + 1) δ tree reached l h gaps (set l′ k (nums l′ k + u)) (set h′ k v) (set g′ k d)
     rise-step =
@@ -214,7 +214,7 @@ pub record HeadsTo (t : List ℤ) (n k : ℕ) (l : List ℕ) (h : List ℤ) : Ty
   pub heads : (j : ℕ) → j < k → Head n (entry t n) (nums l) j (ints h j)
   pub long : Long h
 
-pub heads-step : {t : List ℤ} {n k : ℕ} {l : List ℕ} {h : List ℤ} → HeadsTo t n k l h → k < rows → {r : Top} → TopOf t n l k r
+pub heads-step : {t : List ℤ} {n k : ℕ} {l : List ℕ} {h : List ℤ} → HeadsTo t n k l h → k < row-limit → {r : Top} → TopOf t n l k r
     → r .present ≡ true → HeadsTo t n (k + 1) l (set h k (r .head))
 heads-step {t} {n} {k} {l} {h} w small {r} top e =
     record {

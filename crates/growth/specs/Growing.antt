@@ -6,7 +6,7 @@ use Prim.Native.Nat.{ℕ, _+_, _*_, _≤_, _<_}
 use lib.Dec.{T}
 use lib.IntN.{ℤ}
 use lib.Signed.{_≤ℤ_}
-use Rattle.theory.specs.Limits.{rows, order, handed}
+use Rattle.theory.specs.Limits.{row-limit, order-limit, addition-limit}
 use Rattle.theory.specs.Lists.{nums, ints}
 use Rattle.theory.specs.Table.{Present, entry, WithinLimit}
 use Rattle.theory.specs.Canon.{AtMost, NoTransversal, raised, Canon, Head, Heads}
@@ -15,7 +15,7 @@ use Rattle.orders.specs.Held.{Long}
 
 -- what one insertion adds at most to the largest addition
 abbrev pub insertion-rise : ℕ
-insertion-rise = 4 * (order * rows) + 2 * order
+insertion-rise = 4 * (order-limit * row-limit) + 2 * order-limit
 
 module _ (n : ℕ) (a : ℕ → ℕ → ℤ) where
   -- a present order that, raised, is the head of its column
@@ -46,7 +46,7 @@ module _ (n : ℕ) (a : ℕ → ℕ → ℤ) where
   -- The way back from the unmarked column `end` to row s: its giver is a row of the tree and tight there, and so is the giver of
   -- the column of each row of the tree but s. A giver comes before the row of its column in the order in which rows joined.
   pub record WayBack (s : ℕ) (l : ℕ → ℕ) (h : ℕ → ℤ) (ρ κ giver : ℕ → ℕ) (end : ℕ) : Type 0 where
-    pub small : n ≤ rows
+    pub small : n ≤ row-limit
     pub inserted : s < n
     pub marking : Marking s l h ρ κ
     pub tree : ℕ → Bool
@@ -82,10 +82,10 @@ pub record Flipped (s end : ℕ) (givers row-of column-of row-of′ column-of′
 -- what the code holds when the rows below s are inserted, with no addition beyond what s insertions can make of one handed in
 pub record Ready (t : List ℤ) (n : ℕ) (start : ℕ → ℕ) (s : ℕ) (l : List ℕ) (h : List ℤ) (row-of column-of : List ℕ) : Type 0 where
   pub square : Square t n
-  pub orders : WithinLimit order n (entry t n)
-  pub handed-in : (i : ℕ) → i < n → start i ≤ handed
+  pub orders : WithinLimit order-limit n (entry t n)
+  pub handed-in : (i : ℕ) → i < n → start i ≤ addition-limit
   pub growing : Growing n (entry t n) start s (nums l) (ints h) (nums row-of) (nums column-of)
-  pub top : (i : ℕ) → i < n → nums l i ≤ handed + s * insertion-rise
+  pub top : (i : ℕ) → i < n → nums l i ≤ addition-limit + s * insertion-rise
 
 -- ready to insert row s, from some start
 pub record SomeReady (t : List ℤ) (n s : ℕ) (l : List ℕ) (h : List ℤ) (row-of column-of : List ℕ) : Type 0 where
@@ -103,7 +103,7 @@ pub record SomeColumns (t : List ℤ) (n s : ℕ) (l : List ℕ) (h : List ℤ) 
 pub record Meeting (t : List ℤ) (n : ℕ) (start : ℕ → ℕ) (s : ℕ) (l : List ℕ) (h : List ℤ) (row-of column-of givers : List ℕ) (end : ℕ) : Type 0 where
   pub growing : Growing n (entry t n) start s (nums l) (ints h) (nums row-of) (nums column-of)
   pub way : WayBack n (entry t n) s (nums l) (ints h) (nums row-of) (nums column-of) (nums givers) end
-  pub top : (i : ℕ) → i < n → nums l i ≤ handed + (s + 1) * insertion-rise
+  pub top : (i : ℕ) → i < n → nums l i ≤ addition-limit + (s + 1) * insertion-rise
 
 -- such a column is met, from whatever start and with whatever columns of the rows; or there is no complete transversal
 pub record Met (t : List ℤ) (n s : ℕ) (l : List ℕ) (h : List ℤ) (row-of : List ℕ) (end : ℕ) (l′ : List ℕ) (h′ : List ℤ) (givers : List ℕ) : Type 0 where

@@ -6,7 +6,7 @@ use mathlib.Core.Logic.{_⊎_}
 use Prim.Native.Nat.{ℕ, _+_, _*_, _≤_, _<_}
 use lib.IntN.{ℤ, pos, _+ℤ_}
 use lib.Signed.{_≤ℤ_, mag}
-use Rattle.theory.specs.Limits.{order, rows}
+use Rattle.theory.specs.Limits.{order-limit, row-limit}
 use Rattle.theory.specs.Lists.{nums, ints, flags}
 use Rattle.theory.specs.Table.{Present, entry}
 use Rattle.orders.specs.Places.{Square, ceiling}
@@ -20,7 +20,7 @@ no-gap = 4294967295
 -- an order v, if it is present, in a row with the addition l and a column with the head h: all small enough to be reckoned with
 pub record Reckonable (v : ℤ) (l : ℕ) (h : ℤ) : Type 0 where
   pub addition : l ≤ ceiling
-  pub head : mag h ≤ ceiling + order
+  pub head : mag h ≤ ceiling + order-limit
   pub below : Present v → (v +ℤ pos l) ≤ℤ h
 
 -- The way with the gap g′ from the row p′ is the nearer of the way with the gap g from the row p, and of the way from `row`, whose
@@ -54,7 +54,7 @@ pub record LookedAt (t : List ℤ) (n k row : ℕ) (l : List ℕ) (h : List ℤ)
   pub most : r .gap ≤ no-gap
   pub column : r .gap < no-gap
       → (r .column < k) × (flags reached (r .column) ≡ false) × (nums gaps′ (r .column) ≡ r .gap)
-  pub fits : r .column < rows
+  pub fits : r .column < row-limit
   pub long : Long gaps′ × Long givers′
 
 -- what a row or a column gets of a rise by δ: all of it, or nothing
@@ -69,10 +69,10 @@ pub record Narrowed (δ g g′ : ℕ) : Type 0 where
 -- a rise by δ that can be reckoned and leaves no gap below 0
 pub record Rising (n δ : ℕ) (l : List ℕ) (h : List ℤ) (gaps : List ℕ) : Type 0 where
   pub long : Long l × Long h × Long gaps
-  pub small : n ≤ rows
+  pub small : n ≤ row-limit
   pub rise : δ ≤ 2 * ceiling
   pub additions : (i : ℕ) → i < n → nums l i ≤ ceiling
-  pub heads : (j : ℕ) → j < n → mag (ints h j) ≤ ceiling + order
+  pub heads : (j : ℕ) → j < n → mag (ints h j) ≤ ceiling + order-limit
   pub gap : (j : ℕ) → j < n → nums gaps j < no-gap → δ ≤ nums gaps j
 
 -- the first k rows and columns after the rise: those of the tree are raised, the gaps narrowed

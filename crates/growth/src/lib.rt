@@ -2,7 +2,7 @@ ghost use mathlib.Core.Path.{_≡_};
 ghost use Prim.Native.Nat.{_+_, _*_, _≤_, _<_};
 ghost use lib.IntN.{pos, _+ℤ_};
 ghost use lib.Signed.{mag};
-ghost use Rattle.theory.specs.Limits.{order};
+ghost use Rattle.theory.specs.Limits.{order-limit};
 ghost use Rattle.theory.specs.Lists.{nums, ints};
 ghost use Rattle.theory.specs.Table.{Present, entry};
 ghost use Rattle.orders.specs.Places.{ceiling, Square, UnderCeiling};
@@ -130,7 +130,7 @@ fn share(rise: u32, taken: bool) -> u32
 
 // A head raised. Rules out every other head.
 fn lift(head: i32, rise: u32) -> i32
-    requires { ⌜ (mag head ≤ ceiling + order) × (rise ≤ 2 * ceiling) ⌝ }
+    requires { ⌜ (mag head ≤ ceiling + order-limit) × (rise ≤ 2 * ceiling) ⌝ }
     ensures { λ r. ⌜ r ≡ head +ℤ pos rise ⌝ }
 {
     head + rise as i32

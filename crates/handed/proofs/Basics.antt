@@ -7,7 +7,7 @@ use native.Mathlib.Decide.{ℕ-discrete, decLe, decLt}
 use native.Mathlib.Omega.{arith}
 use lib.IntN.{ℤ, pos, ℤ-discrete}
 use lib.ListN.{length, getD}
-use Rattle.theory.specs.Limits.{rows, order, handed}
+use Rattle.theory.specs.Limits.{row-limit, order-limit, addition-limit}
 use Rattle.theory.specs.Lists.{nums, StarList}
 use Rattle.theory.specs.Table.{absent, Present, Order, Entries}
 use Rattle.theory.proofs.Pigeonhole.{exists, dec-both, dec-not}
@@ -22,44 +22,44 @@ use Rattle.handed.specs.Handed.{Basic}
 use Rattle.handed.specs.declared.FirstTests.the-variants.{Passed, Refused}
 
 -- a size that passed both tests
-pub in-size : {n : ℕ} → (n ≡ 0 → ⊥) → n ≤ rows → OutOfSize n → ⊥
+pub in-size : {n : ℕ} → (n ≡ 0 → ⊥) → n ≤ row-limit → OutOfSize n → ⊥
 in-size ne le (inl e) = ne e
 in-size ne le (inr gt) = omega arith
 
 -- and the other way: a size to which refusal 1 does not apply
-pub sized : {n : ℕ} → (OutOfSize n → ⊥) → (1 ≤ n) × (n ≤ rows)
+pub sized : {n : ℕ} → (OutOfSize n → ⊥) → (1 ≤ n) × (n ≤ row-limit)
 sized {n} f = (
   elim (ℕ-discrete n 0) [ yes e ↦ absurd (f (inl e)) | no ne ↦ omega arith ],
-  elim (decLe n rows) [ yes h ↦ h | no g ↦ absurd (f (inr (omega arith))) ],
+  elim (decLe n row-limit) [ yes h ↦ h | no g ↦ absurd (f (inr (omega arith))) ],
 )
 
 -- whether a number is an order is decided by two comparisons
-order-known : (v : ℤ) → Dec (Order order v)
-order-known v = go (decLe (dn v) (order + up v)) (decLe (up v) (order + dn v))
+order-known : (v : ℤ) → Dec (Order order-limit v)
+order-known v = go (decLe (dn v) (order-limit + up v)) (decLe (up v) (order-limit + dn v))
   where
-    go : Dec (dn v ≤ order + up v) → Dec (up v ≤ order + dn v) → Dec (Order order v)
+    go : Dec (dn v ≤ order-limit + up v) → Dec (up v ≤ order-limit + dn v) → Dec (Order order-limit v)
     go (yes l) (yes h) = yes (record { low = omega (arith, signed); high = omega (arith, signed) })
     go (no f) h = no (λ o. f (omega (arith, signed, o .low)))
     go (yes l) (no f) = no (λ o. f (omega (arith, signed, o .high)))
 
 -- so entries to which refusal 3 does not apply are each absent or an order, and entries that are not have a wrong one among them
-pub entries-known : (t : List ℤ) → (WrongEntry t → ⊥) → Entries order t
+pub entries-known : (t : List ℤ) → (WrongEntry t → ⊥) → Entries order-limit t
 entries-known t f k h p =
     elim (order-known (getD t k (pos 0))) [
       | yes o ↦ o
       | no n ↦ absurd (f (record { place = k; inside = h; not-absent = p; no-order = n }))
     ]
 
-pub entries-right : {t : List ℤ} → Entries order t → WrongEntry t → ⊥
+pub entries-right : {t : List ℤ} → Entries order-limit t → WrongEntry t → ⊥
 entries-right all w = w .no-order (all (w .place) (w .inside) (w .not-absent))
 
 abbrev WrongAt : List ℤ → ℕ → Type 0
-WrongAt t k = Present (getD t k (pos 0)) × (Order order (getD t k (pos 0)) → ⊥)
+WrongAt t k = Present (getD t k (pos 0)) × (Order order-limit (getD t k (pos 0)) → ⊥)
 
 wrong-known : (t : List ℤ) (k : ℕ) → Dec (WrongAt t k)
 wrong-known t k = dec-both (dec-not (ℤ-discrete (getD t k (pos 0)) absent)) (dec-not (order-known (getD t k (pos 0))))
 
-pub wrong-entry : (t : List ℤ) → (Entries order t → ⊥) → WrongEntry t
+pub wrong-entry : (t : List ℤ) → (Entries order-limit t → ⊥) → WrongEntry t
 wrong-entry t f = go (exists (WrongAt t) (wrong-known t) (length t))
   where
     go : ((k : ℕ) × (k < length t) × WrongAt t k) ⊎ ((k : ℕ) → k < length t → WrongAt t k → ⊥) → WrongEntry t
@@ -67,11 +67,11 @@ wrong-entry t f = go (exists (WrongAt t) (wrong-known t) (length t))
     go (inr none) = absurd (f (entries-known t (λ w. none (w .place) (w .inside) (w .not-absent, w .no-order))))
 
 -- ---- refusals 4 and 5
-pub additions-known : (l : List ℕ) → (TooLarge l → ⊥) → (i : ℕ) → i < length l → nums l i ≤ handed
+pub additions-known : (l : List ℕ) → (TooLarge l → ⊥) → (i : ℕ) → i < length l → nums l i ≤ addition-limit
 additions-known l f i h =
-    elim (decLe (nums l i) handed) [ yes p ↦ p | no q ↦ absurd (f (record { row = i; inside = h; above = omega arith })) ]
+    elim (decLe (nums l i) addition-limit) [ yes p ↦ p | no q ↦ absurd (f (record { row = i; inside = h; above = omega arith })) ]
 
-pub additions-right : {l : List ℕ} → ((i : ℕ) → i < length l → nums l i ≤ handed) → TooLarge l → ⊥
+pub additions-right : {l : List ℕ} → ((i : ℕ) → i < length l → nums l i ≤ addition-limit) → TooLarge l → ⊥
 additions-right all w = omega (arith, all (w .row) (w .inside), w .above)
 
 pub stars-known : (n : ℕ) (s : List ℕ) → length s ≡ n → (WrongStars n s → ⊥) → StarList n s
@@ -116,7 +116,7 @@ module _ {n : ℕ} {t : List ℤ} {ks : List ℕ} where
   pub basic-size : OutOfSize n → Basic n t ks (Refused Size)
   basic-size s = refused-by Size (inl (s, refl)) refl
 
-  module _ (ne : n ≡ 0 → ⊥) (le : n ≤ rows) where
+  module _ (ne : n ≡ 0 → ⊥) (le : n ≤ row-limit) where
     pub basic-lengths : WrongLength (slices n t ks) → Basic n t ks (Refused Length)
     basic-lengths w = refused-by Length (inr (in-size ne le, inl (w, refl))) refl
 
@@ -124,7 +124,7 @@ module _ {n : ℕ} {t : List ℤ} {ks : List ℕ} where
       pub basic-entries : WrongEntry t → Basic n t ks (Refused Entry)
       basic-entries w = refused-by Entry (inr (in-size ne le, inr (right-not-wrong (slices n t ks) (sq, f), inl (w, refl)))) refl
 
-      pub basic-sound : Entries order t → Basic n t ks Passed
+      pub basic-sound : Entries order-limit t → Basic n t ks Passed
       basic-sound all =
           record {
             passed = λ e. record { in-size = in-size ne le; square = record { small = le; square = sq }; fitting = f; entries = all };

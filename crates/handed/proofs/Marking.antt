@@ -9,7 +9,7 @@ use native.Mathlib.Omega.{arith}
 use borrow.Author.Count.{below-more}
 use lib.ListN.{length, set, length-set, replicate, length-replicate}
 use lib.Seq.{getD-set-same, getD-set-other}
-use Rattle.theory.specs.Limits.{rows}
+use Rattle.theory.specs.Limits.{row-limit}
 use Rattle.theory.specs.Lists.{nums, columns, StarList}
 use Rattle.theory.proofs.Pigeonhole.{onto}
 use Rattle.orders.specs.Places.{Marks}
@@ -23,30 +23,30 @@ pub record Marked (n k : ℕ) (s row-of column-of : List ℕ) : Type 0 where
   pub to-size : (i : ℕ) → i < k → nums s i ≤ n
   pub column : (i : ℕ) → i < k → nums column-of i ≡ nums s i - 1
   pub back : (i : ℕ) → i < k → nums row-of (nums s i - 1) ≡ i
-  pub taken : (j : ℕ) → j < n → nums row-of j ≢ rows → (nums row-of j < k) × (nums s (nums row-of j) ≡ j + 1)
-  pub rows-long : length row-of ≡ rows
-  pub columns-long : length column-of ≡ rows
+  pub taken : (j : ℕ) → j < n → nums row-of j ≢ row-limit → (nums row-of j < k) × (nums s (nums row-of j) ≡ j + 1)
+  pub rows-long : length row-of ≡ row-limit
+  pub columns-long : length column-of ≡ row-limit
 
 same-at : (m i v : ℕ) → i < m → nums (replicate m v) i ≡ v
 same-at zero i v h = absurd (omega arith)
 same-at (suc m) zero v h = refl
 same-at (suc m) (suc i) v h = same-at m i v (omega arith)
 
-pub marked-start : (n : ℕ) (s : List ℕ) → n ≤ rows → Marked n 0 s (replicate rows rows) (replicate rows 0)
+pub marked-start : (n : ℕ) (s : List ℕ) → n ≤ row-limit → Marked n 0 s (replicate row-limit row-limit) (replicate row-limit 0)
 marked-start n s h =
     record {
       from-one = λ i hi. absurd (omega arith);
       to-size = λ i hi. absurd (omega arith);
       column = λ i hi. absurd (omega arith);
       back = λ i hi. absurd (omega arith);
-      taken = λ j hj ne. absurd (ne (same-at rows j rows (omega arith)));
-      rows-long = length-replicate {A = ℕ} rows rows;
-      columns-long = length-replicate {A = ℕ} rows 0;
+      taken = λ j hj ne. absurd (ne (same-at row-limit j row-limit (omega arith)));
+      rows-long = length-replicate {A = ℕ} row-limit row-limit;
+      columns-long = length-replicate {A = ℕ} row-limit 0;
     }
 
-module _ {n k : ℕ} {s row-of column-of : List ℕ} (m : Marked n k s row-of column-of) (small : n ≤ rows) (hk : k < n) where
+module _ {n k : ℕ} {s row-of column-of : List ℕ} (m : Marked n k s row-of column-of) (small : n ≤ row-limit) (hk : k < n) where
   -- the star's column is free, so no earlier row has it
-  pub marked-more : 1 ≤ nums s k → nums s k ≤ n → nums row-of (nums s k - 1) ≡ rows
+  pub marked-more : 1 ≤ nums s k → nums s k ≤ n → nums row-of (nums s k - 1) ≡ row-limit
       → Marked n (k + 1) s (set row-of (nums s k - 1) k) (set column-of k (nums s k - 1))
   marked-more one size free =
       record {
@@ -69,7 +69,7 @@ module _ {n k : ℕ} {s row-of column-of : List ℕ} (m : Marked n k s row-of co
           let other : nums s i - 1 ≢ nums s k - 1 = λ e. omega (arith, m .back i (omega arith), ap (nums row-of) e, free) in
           getD-set-other row-of (nums s k - 1) (nums s i - 1) k 0 other ∙ m .back i (omega arith)
 
-      taken : (j : ℕ) → j < n → nums (set row-of (nums s k - 1) k) j ≢ rows → Dec (j ≡ nums s k - 1)
+      taken : (j : ℕ) → j < n → nums (set row-of (nums s k - 1) k) j ≢ row-limit → Dec (j ≡ nums s k - 1)
           → (nums (set row-of (nums s k - 1) k) j < k + 1) × (nums s (nums (set row-of (nums s k - 1) k) j) ≡ j + 1)
       taken j hj ne (yes e) = rw (e, getD-set-same row-of (nums s k - 1) k 0 (omega (arith, m .rows-long))) (omega arith, omega arith)
       taken j hj ne (no d) =
@@ -84,7 +84,7 @@ module _ {n k : ℕ} {s row-of column-of : List ℕ} (m : Marked n k s row-of co
     pub marked-high : n < nums s k → WrongStars n s
     marked-high h = over-size k (omega arith) h
 
-    pub marked-twice : 1 ≤ nums s k → nums s k ≤ n → nums row-of (nums s k - 1) ≢ rows → WrongStars n s
+    pub marked-twice : 1 ≤ nums s k → nums s k ≤ n → nums row-of (nums s k - 1) ≢ row-limit → WrongStars n s
     marked-twice one size ne =
         let (lt, eq) = m .taken (nums s k - 1) (omega arith) ne in
         twice (nums row-of (nums s k - 1)) k lt (omega arith) (omega arith)

@@ -7,7 +7,7 @@ use mathlib.Core.List.{List, [], _∷_}
 use Prim.Native.Nat.{ℕ, _*_, _<_}
 use lib.IntN.{ℤ, pos}
 use lib.ListN.{length, getD}
-use Rattle.theory.specs.Limits.{rows, order, handed}
+use Rattle.theory.specs.Limits.{row-limit, order-limit, addition-limit}
 use Rattle.theory.specs.Lists.{nums, columns}
 use Rattle.theory.specs.Table.{Present, Order, entry}
 use Rattle.theory.specs.Canon.{NoTransversal, Canon, Misplaced}
@@ -15,7 +15,7 @@ use Rattle.orders.specs.Refusals.{Test, _given-when_, Slice, _wanted_, WrongLen
 
 -- 1: "N is 0 or above 32"
 abbrev pub OutOfSize : ℕ → Type 0
-OutOfSize n = (n ≡ 0) ⊎ (rows < n)
+OutOfSize n = (n ≡ 0) ⊎ (row-limit < n)
 
 -- "additions, stars, heads N each": ks are the lengths of these
 abbrev pub each : ℕ → List ℕ → List Slice
@@ -31,13 +31,13 @@ pub record WrongEntry (t : List ℤ) : Type 0 where
   pub place : ℕ
   pub inside : place < length t
   pub not-absent : Present (getD t place (pos 0))
-  pub no-order : Order order (getD t place (pos 0)) → ⊥
+  pub no-order : Order order-limit (getD t place (pos 0)) → ⊥
 
 -- 4: "an addition handed in is above 10,000"
 pub record TooLarge (l : List ℕ) : Type 0 where
   pub row : ℕ
   pub inside : row < length l
-  pub above : handed < nums l row
+  pub above : addition-limit < nums l row
 
 -- 5: "a star list has a number outside 1 to N, or one twice"
 pub data WrongStars (n : ℕ) (s : List ℕ) : Type 0 where

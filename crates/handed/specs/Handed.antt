@@ -5,7 +5,7 @@ use mathlib.Core.List.{List, []}
 use Prim.Native.Nat.{ℕ, _≤_, _<_}
 use lib.IntN.{ℤ}
 use lib.ListN.{length}
-use Rattle.theory.specs.Limits.{order, handed}
+use Rattle.theory.specs.Limits.{order-limit, addition-limit}
 use Rattle.theory.specs.Lists.{nums, columns, StarList}
 use Rattle.theory.specs.Table.{Entries}
 use Rattle.orders.specs.Places.{Square, Marks}
@@ -21,7 +21,7 @@ pub record Sound (n : ℕ) (t : List ℤ) (ks : List ℕ) : Type 0 where
   pub in-size : OutOfSize n → ⊥
   pub square : Square t n
   pub fitting : RightLengths (each n ks)
-  pub entries : Entries order t
+  pub entries : Entries order-limit t
 
 -- r tells the first of the refusals 1, 2 and 3 that applies, or that none does
 pub record Basic (n : ℕ) (t : List ℤ) (ks : List ℕ) (r : FirstTests) : Type 0 where
@@ -30,7 +30,7 @@ pub record Basic (n : ℕ) (t : List ℤ) (ks : List ℕ) (r : FirstTests) : Typ
 
 -- r tells whether all additions handed in are within the limit, or one is above it
 pub record WithinAs (l : List ℕ) (r : Bool) : Type 0 where
-  pub within : r ≡ true → (i : ℕ) → i < length l → nums l i ≤ handed
+  pub within : r ≡ true → (i : ℕ) → i < length l → nums l i ≤ addition-limit
   pub above : r ≡ false → TooLarge l
 
 -- r tells whether s is a star list, and has the marks of one that is: row of column and column of row, from 0

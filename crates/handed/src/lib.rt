@@ -2,7 +2,7 @@ ghost use mathlib.Core.Path.{_≡_};
 ghost use mathlib.Core.List.{[], _∷_};
 ghost use Prim.Native.Nat.{ℕ, _≤_, _<_};
 ghost use lib.ListN.{length};
-ghost use Rattle.theory.specs.Limits.{rows};
+ghost use Rattle.theory.specs.Limits.{row-limit};
 ghost use Rattle.theory.specs.Lists.{nums};
 ghost use Rattle.theory.specs.Table.{Present, entry};
 ghost use Rattle.orders.specs.Places.{Square};
@@ -76,7 +76,7 @@ pub fn additions_stand(given: &[u32]) -> bool
 
 // The numbers of a lent slice, held by value. Rules out another number in any place.
 pub fn held(given: &[u32]) -> [u32; ROWS]
-    requires { ⌜ length (now given) ≤ rows ⌝ }
+    requires { ⌜ length (now given) ≤ row-limit ⌝ }
     ensures { λ r. ⌜ ((i : ℕ) → i < length (now (given .entry)) → nums r i ≡ nums (now (given .entry)) i) ⌝ }
 {
     let mut kept = [0u32; ROWS];
@@ -90,7 +90,7 @@ pub fn held(given: &[u32]) -> [u32; ROWS]
 
 // Are the first n additions of two arrays the same? Rules out a difference overlooked, and one seen past row n.
 pub fn same(n: usize, left: &[u32; ROWS], right: &[u32; ROWS]) -> bool
-    requires { ⌜ n ≤ rows ⌝ }
+    requires { ⌜ n ≤ row-limit ⌝ }
     ensures { λ r. ⌜ Tells r ((i : ℕ) → i < n → nums (now (left .entry)) i ≡ nums (now (right .entry)) i) ⌝ }
 {
     let mut i = 0;
@@ -128,7 +128,7 @@ pub struct Listed {
 // The marks of a list of stars, which is to have each number from 1 to n once. Rules out a number outside 1 to n or given twice
 // that passes, and marks that are not the list's.
 pub fn listed_marks(n: usize, given: &[u32]) -> Listed
-    requires { ⌜ (n ≤ rows) × (length (now given) ≡ n) ⌝ }
+    requires { ⌜ (n ≤ row-limit) × (length (now given) ≡ n) ⌝ }
     ensures { λ r. ⌜ ListedAs n (now (given .entry)) r ⌝ }
 {
     let mut rows = [ROWS; ROWS];

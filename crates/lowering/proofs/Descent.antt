@@ -8,7 +8,7 @@ use native.Mathlib.Omega.{arith}
 use lib.IntN.{ℤ, pos, _+ℤ_}
 use lib.Signed.{_≤ℤ_}
 use lib.ListN.{length, set, length-set, replicate, length-replicate}
-use Rattle.theory.specs.Limits.{rows}
+use Rattle.theory.specs.Limits.{row-limit}
 use Rattle.theory.specs.Lists.{nums, flags}
 use Rattle.theory.specs.Table.{Present, entry}
 use Rattle.theory.specs.Canon.{OfMaxima, Canon, AtMost, LeastFrom}
@@ -148,18 +148,19 @@ module _ (n : ℕ) (a : ℕ → ℕ → ℤ) (σ start : ℕ → ℕ) where
 pub record Going (t : List ℤ) (n : ℕ) (columns canon floors additions least : List ℕ) (settled : List Bool) (k : ℕ) : Type 0 where
   pub falling : Falling n (entry t n) (nums columns) (nums floors) (nums additions) (nums least) (flags settled)
   pub next : LeastSlack n n additions least settled k
-  pub long : length settled ≡ rows
+  pub long : length settled ≡ row-limit
   pub not-above : AtMost n (nums additions) (nums canon)
 
 module _ {t : List ℤ} {n : ℕ} {columns canon floors : List ℕ} (g : CanonGiven t n columns canon floors) where
-  pub going-start : {k : ℕ} → LeastSlack n n canon floors (replicate rows false) k → Going t n columns canon floors canon floors (replicate rows false) k
+  pub going-start : {k : ℕ} → LeastSlack n n canon floors (replicate row-limit false) k
+      → Going t n columns canon floors canon floors (replicate row-limit false) k
   going-start s =
       record {
         falling =
-            falling-start n (entry t n) (nums columns) (nums floors) (nums canon) (flags (replicate rows false)) (g .canon-by .of-maxima)
-            (g .not-below) (all-unset rows);
+            falling-start n (entry t n) (nums columns) (nums floors) (nums canon) (flags (replicate row-limit false)) (g .canon-by .of-maxima)
+            (g .not-below) (all-unset row-limit);
         next = s;
-        long = length-replicate rows false;
+        long = length-replicate row-limit false;
         not-above = λ i hi. omega arith;
       }
 

@@ -1,5 +1,5 @@
 ghost use Prim.Native.Nat.{ℕ, _≤_, _<_};
-ghost use Rattle.theory.specs.Limits.{rows};
+ghost use Rattle.theory.specs.Limits.{row-limit};
 ghost use Rattle.theory.specs.Lists.{nums, flags};
 ghost use Rattle.theory.specs.Table.{entry};
 ghost use Rattle.theory.specs.Canon.{AtMost};
@@ -20,7 +20,7 @@ fn least_slack(
     floors: &[u32; ROWS],
     settled: &[bool; ROWS],
 ) -> usize
-    requires { ⌜ (n ≤ rows) × AtMost n (nums (now floors)) (nums (now additions)) ⌝ }
+    requires { ⌜ (n ≤ row-limit) × AtMost n (nums (now floors)) (nums (now additions)) ⌝ }
     ensures { λ r. ⌜ LeastSlack n n (now (additions .entry)) (now (floors .entry)) (now (settled .entry)) r ⌝ }
 {
     let mut best = n;
@@ -44,7 +44,7 @@ fn least_slack(
 
 // The additions with the amount d taken off every unsettled row. Rules out a settled row that falls, and another that does not.
 fn lowered(n: usize, additions: [u32; ROWS], settled: &[bool; ROWS], d: u32) -> [u32; ROWS]
-    requires { ⌜ (n ≤ rows) × Spare n additions (now settled) d ⌝ }
+    requires { ⌜ (n ≤ row-limit) × Spare n additions (now settled) d ⌝ }
     ensures { λ r. ⌜ ((i : ℕ) → i < n → Fallen (nums additions) (flags (now (settled .entry))) d i (nums r i)) ⌝ }
 {
     let mut next = additions;

@@ -13,7 +13,7 @@ use borrow.Author.Tests.{eqb-true, eqb-false}
 use mir.Syntax.{Width, w16, w32}
 use mir.Val.{SFits, ofZ, toZ, hbits}
 use mir.Facts.{toZ-ofZ}
-use Rattle.theory.specs.Limits.{order}
+use Rattle.theory.specs.Limits.{order-limit}
 use Rattle.theory.specs.Table.{absent, Present, Order}
 use Rattle.theory.proofs.Signed.{signed}
 use Rattle.orders.specs.Tested.{Tells}
@@ -53,10 +53,10 @@ back w z h = toZ-ofZ (record { sfits = h })
 pub entry-absent : (limit : ℕ) (v : ℤ) → SFits w16 v → ofZ w16 v ≡ 32768 → Tells true (Present v → Order limit v)
 entry-absent limit v f e = tells-yes (λ p. absurd (p (absent-bits v f e)))
 
-pub entry-low : (v : ℤ) → (ofZ w16 v ≡ 32768 → ⊥) → ltZ v (negℤ (pos order)) ≡ true → Tells false (Present v → Order order v)
+pub entry-low : (v : ℤ) → (ofZ w16 v ≡ 32768 → ⊥) → ltZ v (negℤ (pos order-limit)) ≡ true → Tells false (Present v → Order order-limit v)
 entry-low v ne t = tells-no (λ all. let o = all (present-bits v ne) in omega (arith, signed, o .low))
 
-pub entry-high : (v : ℤ) → (ofZ w16 v ≡ 32768 → ⊥) → ltZ v (negℤ (pos order)) ≡ false → Tells (leZ v (pos order)) (Present v → Order order v)
+pub entry-high : (v : ℤ) → (ofZ w16 v ≡ 32768 → ⊥) → ltZ v (negℤ (pos order-limit)) ≡ false → Tells (leZ v (pos order-limit)) (Present v → Order order-limit v)
 entry-high v ne t =
     record {
       holds = λ e p. record { low = omega (arith, signed); high = omega (arith, signed) };

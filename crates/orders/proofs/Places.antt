@@ -10,7 +10,7 @@ use native.Mathlib.Omega.{arith}
 use lib.IntN.{ℤ, pos, _+ℤ_}
 use lib.ListN.{length}
 use lib.Signed.{_≤ℤ_, ≤ℤ-refl, _<ℤ_, leZ}
-use Rattle.theory.specs.Limits.{rows}
+use Rattle.theory.specs.Limits.{row-limit}
 use Rattle.theory.specs.Lists.{nums}
 use Rattle.theory.specs.Table.{absent, Present, entry, Entries, WithinLimit}
 use Rattle.theory.specs.Canon.{Head}
@@ -25,7 +25,7 @@ use mir.Val.{SFits}
 pub cell : (n i j : ℕ) → i < n → j < n → i * n + j < n * n
 cell n i j hi hj = omega (arith, mul-le-mul-right n hi)
 
-pub square-small : (n : ℕ) → n ≤ rows → n * n ≤ rows * rows
+pub square-small : (n : ℕ) → n ≤ row-limit → n * n ≤ row-limit * row-limit
 square-small n h = omega (arith, mul-le-mul-right n h)
 
 -- a table whose entries stand is within the limit at each place

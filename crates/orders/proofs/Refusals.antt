@@ -14,7 +14,8 @@ use lib.ListN.{getD}
 use Rattle.orders.specs.Refusals.{numberOf, valuesOf, Said, gives, refuses, refusal}
 use Rattle.orders.specs.Refusals.{Test, First, Clear, Applies, numbers, Rising, Among, Slice, WrongLength, RightLengths}
 use Rattle.orders.specs.declared.Refusal.{Refusal}
-use Rattle.orders.specs.declared.Refusal.the-variants.{Size, Length, Entry, Addition, StarList, NoTransversal, NoCanon, NotGreatest, TooLong, Line, Label, Room}
+use Rattle.orders.specs.declared.Refusal.the-variants.{Size, Length, Entry, Addition, StarList, NoTransversal, NoCanon}
+use Rattle.orders.specs.declared.Refusal.the-variants.{NotGreatest, TooLong, Line, Label, Room}
 use Rattle.orders.proofs.Refusal.{the-type}
 
 pub first-once : (ts : List Test) (j k : ℕ) → First ts j → First ts k → j ≡ k

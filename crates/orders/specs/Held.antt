@@ -4,7 +4,7 @@ use mathlib.Core.List.{List}
 use Prim.Native.Nat.{ℕ, _≤_, _<_}
 use lib.IntN.{ℤ}
 use lib.ListN.{length}
-use Rattle.theory.specs.Limits.{rows, order, handed}
+use Rattle.theory.specs.Limits.{row-limit, order-limit, addition-limit}
 use Rattle.theory.specs.Lists.{nums}
 use Rattle.theory.specs.Table.{entry, Entries}
 use Rattle.theory.specs.Canon.{OfMaxima, LeastFrom}
@@ -12,13 +12,13 @@ use Rattle.orders.specs.Places.{Square, UnderCeiling}
 
 -- the list of an array, which has a place for each row of the largest table
 abbrev pub Long : {X : Type 0} → List X → Type 0
-Long l = length l ≡ rows
+Long l = length l ≡ row-limit
 
 -- what a route begins from: a tested table of n rows, and a start within document 01's limit of additions handed in
 pub record Startable (t : List ℤ) (n : ℕ) (start : List ℕ) : Type 0 where
   pub square : Square t n
-  pub entries : Entries order t
-  pub handed-in : (i : ℕ) → i < n → nums start i ≤ handed
+  pub entries : Entries order-limit t
+  pub handed-in : (i : ℕ) → i < n → nums start i ≤ addition-limit
 
 -- additions that are a canon by these columns: they are those of a complete transversal of column maxima; and no addition is above the
 -- ceiling

@@ -7,7 +7,7 @@ use Prim.Native.Nat.{ℕ, _+_, _*_, _≤_, _<_}
 use lib.IntN.{ℤ, pos, _+ℤ_}
 use lib.ListN.{length}
 use lib.Signed.{_≤ℤ_}
-use Rattle.theory.specs.Limits.{rows}
+use Rattle.theory.specs.Limits.{row-limit}
 use Rattle.theory.specs.Lists.{nums}
 use Rattle.theory.specs.Table.{Present, entry}
 use Rattle.theory.specs.Canon.{Head}
@@ -19,7 +19,7 @@ ceiling = 100000000
 
 -- a table of n rows and columns, of a size that the code takes
 pub record Square (t : List ℤ) (n : ℕ) : Type 0 where
-  pub small : n ≤ rows
+  pub small : n ≤ row-limit
   pub square : length t ≡ n * n
 
 -- no addition of the first n rows passes the ceiling

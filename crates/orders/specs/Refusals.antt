@@ -4,7 +4,8 @@ use mathlib.Core.Path.{_≡_}
 use mathlib.Core.Logic.{_⊎_, _≢_}
 use mathlib.Core.List.{List, [], _∷_}
 use Rattle.orders.specs.declared.Refusal.{Refusal}
-use Rattle.orders.specs.declared.Refusal.the-variants.{Size, Length, Entry, Addition, StarList, NoTransversal, NoCanon, NotGreatest, TooLong, Line, Label, Room}
+use Rattle.orders.specs.declared.Refusal.the-variants.{Size, Length, Entry, Addition, StarList, NoTransversal, NoCanon}
+use Rattle.orders.specs.declared.Refusal.the-variants.{NotGreatest, TooLong, Line, Label, Room}
 
 -- "A refusal returns its number"
 abbrev pub numberOf : Refusal → ℕ

@@ -1,6 +1,6 @@
 ghost use mathlib.Core.Path.{_≡_};
 ghost use Rattle.theory.specs.Table.{Present, Order, Entries};
-ghost use Rattle.theory.specs.Limits.{order};
+ghost use Rattle.theory.specs.Limits.{order-limit};
 ghost use Rattle.orders.specs.Refusals.{numberOf};
 ghost use Rattle.orders.specs.Tested.{Tells};
 ghost use Rattle.orders.specs.Places.{ceiling, Square, UnderCeiling, TopOf, Higher};
@@ -60,7 +60,7 @@ pub fn number(r: Refusal) -> u32
 
 // Is an entry absent, or an order within the limit? Rules out 101 and −101 let through, and an absent place turned away.
 pub fn entry_stands(v: i16) -> bool
-    ensures { λ r. ⌜ Tells r (Present v → Order order v) ⌝ }
+    ensures { λ r. ⌜ Tells r (Present v → Order order-limit v) ⌝ }
 {
     if v == ABSENT {
         return true;
@@ -73,7 +73,7 @@ pub fn entry_stands(v: i16) -> bool
 
 // Are all entries of a table absent, or orders within the limit? Rules out an entry passed over.
 pub fn entries_stand(table: &[i16]) -> bool
-    ensures { λ r. ⌜ Tells r (Entries order (now (table .entry))) ⌝ }
+    ensures { λ r. ⌜ Tells r (Entries order-limit (now (table .entry))) ⌝ }
 {
     let mut k = 0;
     while k < table.len() {

@@ -6,7 +6,7 @@ use native.Mathlib.Omega.{arith}
 use lib.IntN.{ℤ, pos}
 use lib.ListN.{length, take, length-take}
 use lib.Seq.{getD-take}
-use Rattle.theory.specs.Limits.{rows}
+use Rattle.theory.specs.Limits.{row-limit}
 use Rattle.theory.specs.Lists.{nums, columns, StarList}
 use Rattle.theory.specs.Table.{entry}
 use Rattle.theory.specs.Canon.{Stars}
@@ -28,14 +28,14 @@ star-list long one st =
     }
 
 -- as many as the slice has places are copied
-cut : {X : Type 0} {n : ℕ} (lent from : List X) → n ≤ rows → length lent ≡ n → Long from → length (take (length lent) from) ≡ n
+cut : {X : Type 0} {n : ℕ} (lent from : List X) → n ≤ row-limit → length lent ≡ n → Long from → length (take (length lent) from) ≡ n
 cut {X} {n} lent from small p q = length-take (length lent) from ∙ least
   where
     least : min (length lent) (length from) ≡ n
     least = omega arith
 
 pub delivery : {t : List ℤ} {n : ℕ} {l adds stars : List ℕ} {heads : List ℤ} {w : WholeAnswer} {adds′ stars′ : List ℕ} {heads′ : List ℤ}
-    → n ≤ rows → Slices n adds stars heads → Long (w .additions) → Long (w .stars) → Long (w .heads)
+    → n ≤ row-limit → Slices n adds stars heads → Long (w .additions) → Long (w .stars) → Long (w .heads)
     → WholeAnswerOf t n l w → HandedOut w adds stars heads adds′ stars′ heads′ → Delivered t n l (w .sum) adds′ stars′ heads′
 delivery {t} {n} {l} {adds} {stars} {heads} {w} {adds′} {stars′} {heads′} small lent wide-adds wide-stars wide-heads whole out =
     record {

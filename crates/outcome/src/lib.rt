@@ -3,7 +3,7 @@ ghost use Prim.Native.Nat.{ℕ, _+_, _≤_, _<_};
 ghost use lib.IntN.{_+ℤ_};
 ghost use lib.ListN.{length, take};
 ghost use lib.Signed.{mag};
-ghost use Rattle.theory.specs.Limits.{rows};
+ghost use Rattle.theory.specs.Limits.{row-limit};
 ghost use Rattle.theory.specs.Lists.{nums, ints};
 ghost use Rattle.theory.specs.Table.{entry};
 ghost use Rattle.theory.specs.Canon.{Heads, sum};
@@ -57,7 +57,7 @@ fn sum_of(table: &[i16], n: usize, columns: &[usize; ROWS]) -> i32
 
 // The columns of the first n rows, numbered from 1. Rules out columns numbered from 0.
 fn numbered(n: usize, columns: &[usize; ROWS]) -> [u32; ROWS]
-    requires { ⌜ (n ≤ rows) × ((i : ℕ) → i < n → nums (now columns) i < n) ⌝ }
+    requires { ⌜ (n ≤ row-limit) × ((i : ℕ) → i < n → nums (now columns) i < n) ⌝ }
     ensures { λ r. ⌜ ((i : ℕ) → i < n → nums r i ≡ nums (now (columns .entry)) i + 1) ⌝ }
 {
     let mut stars = [0u32; ROWS];
@@ -71,7 +71,7 @@ fn numbered(n: usize, columns: &[usize; ROWS]) -> [u32; ROWS]
 
 // Fixed numbers copied out into a lent slice. Rules out a number left as it was.
 fn copy_numbers(from: [u32; ROWS], to: &mut [u32])
-    requires { ⌜ length (now to) ≤ rows ⌝ }
+    requires { ⌜ length (now to) ≤ row-limit ⌝ }
     ensures { λ _. ⌜ now (to .exit) ≡ take (length (now (to .entry))) from ⌝ }
 {
     let mut i = 0;
@@ -83,7 +83,7 @@ fn copy_numbers(from: [u32; ROWS], to: &mut [u32])
 
 // The same of heads.
 fn copy_heads(from: [i32; ROWS], to: &mut [i32])
-    requires { ⌜ length (now to) ≤ rows ⌝ }
+    requires { ⌜ length (now to) ≤ row-limit ⌝ }
     ensures { λ _. ⌜ now (to .exit) ≡ take (length (now (to .entry))) from ⌝ }
 {
     let mut i = 0;
@@ -129,7 +129,7 @@ pub fn completed(
 // The whole answer copied out into the lent slices, which have a place for each row. Rules out a list copied into another's
 // slice.
 pub fn hand_out(answer: WholeAnswer, adds: &mut [u32], stars: &mut [u32], heads: &mut [i32])
-    requires { ⌜ (length (now adds) ≤ rows) × (length (now stars) ≤ rows) × (length (now heads) ≤ rows) ⌝ }
+    requires { ⌜ (length (now adds) ≤ row-limit) × (length (now stars) ≤ row-limit) × (length (now heads) ≤ row-limit) ⌝ }
     ensures { λ _. ⌜ HandedOut
         answer
         (now (adds .entry))

@@ -7,7 +7,7 @@ use native.Mathlib.Decide.{decLe}
 use native.Mathlib.Omega.{arith}
 use lib.IntN.{ℤ, pos, negsuc}
 use lib.ListN.{length, getD, length-append, length-map}
-use Rattle.theory.specs.Limits.{rows, sheet}
+use Rattle.theory.specs.Limits.{row-limit, sheet-limit}
 use Rattle.theory.specs.Lists.{nums, ints}
 use Rattle.theory.specs.Table.{Order}
 use Rattle.theory.proofs.Signed.{signed as signs}
@@ -28,7 +28,7 @@ use Rattle.printing.specs.Promise.{FiguresOf, TableSays, no-transversal,
 -- a section with a name of at most ten bytes, at most a line for every row, and lines that are not too long
 record Short (s : Section) : Type 0 where
   name-short : length (s .name) ≤ 10
-  few : length (s .values) ≤ rows
+  few : length (s .values) ≤ row-limit
   lines-short : length (endedLines (s .values)) ≤ line-room * length (s .values)
 
 section-fits : (s : Section) → Short s → length (sectionText s) ≤ section-room
@@ -74,7 +74,7 @@ lines-within f d (x ∷ l) each =
       lines-within f d l (λ k h. each (suc k) (omega arith)),
     )
 
-numbers-short : (name : String) (l : List ℕ) → length (ascii name) ≤ 10 → length l ≤ rows → ((k : ℕ) → k < length l → nums l k ≤ widest)
+numbers-short : (name : String) (l : List ℕ) → length (ascii name) ≤ 10 → length l ≤ row-limit → ((k : ℕ) → k < length l → nums l k ≤ widest)
     → Short (numbers name l)
 numbers-short name l brief few small =
     record {
@@ -88,7 +88,7 @@ signed-within : (z : ℤ) → Order widest z → length (signed z) ≤ 11
 signed-within (pos n) h = omega (arith, text-within 9 n (omega (arith, signs, h .high)))
 signed-within (negsuc n) h = omega (arith, text-within 9 (suc n) (omega (arith, signs, h .low)))
 
-integers-short : (name : String) (l : List ℤ) → length (ascii name) ≤ 10 → length l ≤ rows → ((k : ℕ) → k < length l → Order widest (ints l k))
+integers-short : (name : String) (l : List ℤ) → length (ascii name) ≤ 10 → length l ≤ row-limit → ((k : ℕ) → k < length l → Order widest (ints l k))
     → Short (integers name l)
 integers-short name l brief few small =
     record {
@@ -157,8 +157,8 @@ line-printed k small =
       text-within 9 k (omega arith),
     )
 
-few-bytes : (s : List ℕ) → (TooLong s → ⊥) → length s ≤ sheet
-few-bytes s f = elim (decLe (length s) sheet) [ yes h ↦ h | no g ↦ absurd (f (omega arith)) ]
+few-bytes : (s : List ℕ) → (TooLong s → ⊥) → length s ≤ sheet-limit
+few-bytes s f = elim (decLe (length s) sheet-limit) [ yes h ↦ h | no g ↦ absurd (f (omega arith)) ]
 
 -- a table that was read is sound
 pub stands-sound : (t : Labelled) → Stands t → Sound (length (t .row-labels)) (t .entries) []

@@ -6,7 +6,7 @@ use native.Mathlib.Decide.{decLe}
 use native.Mathlib.Omega.{arith}
 use lib.ListN.{length, take, length-take}
 use lib.Seq.{take-all, length-take-le}
-use Rattle.theory.specs.Limits.{sheet}
+use Rattle.theory.specs.Limits.{sheet-limit}
 use Rattle.orders.specs.Refusals.{Said}
 use Rattle.printing.specs.Printed.{Figures, enough}
 use Rattle.printing.specs.Promise.{SheetSays, too-long, wrong-line, of-table, Prints, ReadOf, InputPromise}
@@ -14,7 +14,7 @@ use Rattle.printing.proofs.Copying.{page-inside}
 
 -- The first m bytes of an input, with m above the limit of a sheet, have the input's own answer: either they are the whole input, or
 -- both are longer than any sheet.
-whole-says : (input : List ℕ) (m : ℕ) (a : Said Figures) → sheet < m → SheetSays (take m input) a → SheetSays input a
+whole-says : (input : List ℕ) (m : ℕ) (a : Said Figures) → sheet-limit < m → SheetSays (take m input) a → SheetSays input a
 whole-says input m a h says = elim (decLe (length input) m) [
   | yes short ↦ rw (take-all m input short) at says
   | no long ↦ cut long says
@@ -30,7 +30,7 @@ pub past : (buffer : List ℕ) (n end : ℕ) → end ≡ length buffer → lengt
 past buffer n end e h = take-all end buffer (omega arith) ∙ sym (take-all n buffer h)
 
 -- the answer of the bytes that were read is that of every input of which they were read
-pub answers-input : {s buffer : List ℕ} {n : ℕ} {room room′ : List ℕ} {r : ℕ} → length buffer ≡ suc sheet → length room ≡ enough → s ≡ take n buffer
+pub answers-input : {s buffer : List ℕ} {n : ℕ} {room room′ : List ℕ} {r : ℕ} → length buffer ≡ suc sheet-limit → length room ≡ enough → s ≡ take n buffer
     → Prints (SheetSays s) room room′ r → InputPromise buffer n room room′ r
 answers-input {buffer = buffer} one-more roomy e p =
     record {

@@ -8,7 +8,7 @@ use native.Mathlib.Omega.{arith}
 use lib.IntN.{ℤ}
 use lib.ListN.{length, take, drop, length-append}
 use lib.Seq.{take-at}
-use Rattle.theory.specs.Limits.{rows, order}
+use Rattle.theory.specs.Limits.{row-limit, order-limit}
 use Rattle.theory.specs.Table.{entry, Entries}
 use Rattle.theory.specs.Canon.{NoTransversal}
 use Rattle.orders.specs.declared.Refusal.{Refusal}
@@ -120,7 +120,7 @@ pub record Taken (s : List ℕ) (n : ℕ) (b : List ℤ) : Type 0 where
   pub front : take (n * n) b ≡ labelled .entries
   pub sound : Sound n (take (n * n) b) []
   pub inside : n * n ≤ length b
-  pub small : n * n ≤ rows * rows
+  pub small : n * n ≤ row-limit * row-limit
 
 module _ {s : List ℕ} {m m′ : reading.Lent} {r : Read} (w : reading.Wanted m) (p : reading.ReadPromise s m m′ (reading.says r)) where
   -- a sheet that the reader refuses, by 9 or by 10 since the lengths are the wanted ones
@@ -162,7 +162,7 @@ module _ {s : List ℕ} {m m′ : reading.Lent} {r : Read} (w : reading.Wanted m
             front = fr;
             sound = rw (fr, c) (stands-sound t st);
             inside = omega (arith, ap length x, length-append (t .entries) behind);
-            small = mul-le-mul {n₁ = n} {m₁ = n} {n₂ = rows} {m₂ = rows} (omega (arith, st .few)) (omega (arith, st .few));
+            small = mul-le-mul {n₁ = n} {m₁ = n} {n₂ = row-limit} {m₂ = row-limit} (omega (arith, st .few)) (omega (arith, st .few));
           }
 
 -- what the answer of the table says, the answer of the sheet says

@@ -8,6 +8,7 @@ use lib.ListN.{length, take}
 use lib.Seq.{ext-getD}
 use Rattle.theory.specs.Lists.{nums, columns, StarList}
 use Rattle.theory.specs.Table.{entry}
+use Rattle.theory.specs.Canon.{NoTransversal}
 use Rattle.theory.proofs.Unique.{solution-once, index-once}
 use Rattle.orders.specs.Refusals.{numberOf, valuesOf, Said, gives, refuses}
 use Rattle.orders.proofs.Refusals.{refusal-once, given-once, not-both}
@@ -52,7 +53,7 @@ figures-once n t f g p q =
     ∙ ap (figures (g .adds) (g .stars) (g .heads) (g .sum)) x
 
 -- a table with figures has a complete transversal
-some-transversal : {X : Type 0} (n : ℕ) (t : List ℤ) (f : Figures) → FiguresOf n t f → Rattle.theory.specs.Canon.NoTransversal n (Rattle.theory.specs.Table.entry t n) → X
+some-transversal : {X : Type 0} (n : ℕ) (t : List ℤ) (f : Figures) → FiguresOf n t f → NoTransversal n (entry t n) → X
 some-transversal n t f p none = absurd (none (columns (f .stars)) (p .solution .stars .of-maxima .transversal))
 
 table-once : (n : ℕ) (t : List ℤ) (a b : Said Figures) → TableSays n t a → TableSays n t b → a ≡ b

@@ -3,7 +3,7 @@ use mathlib.Core.List.{List, [], _∷_, _++_, map, flatMap}
 use Prim.Native.Nat.{ℕ, _+_, _*_}
 use Prim.Native.String.{String}
 use lib.IntN.{ℤ}
-use Rattle.theory.specs.Limits.{rows}
+use Rattle.theory.specs.Limits.{row-limit}
 use Rattle.sheet.specs.Text.{blank, ascii, text, signed, ended}
 use Rattle.sheet.specs.Sheet.{countedLines}
 use Rattle.orders.specs.Refusals.{Said, gives, refuses}
@@ -71,7 +71,7 @@ heading-room = 16
 
 -- a section: its heading, and a line for every row
 abbrev pub section-room : ℕ
-section-room = heading-room + rows * line-room
+section-room = heading-room + row-limit * line-room
 
 -- ten sections, with some to spare
 abbrev pub sections-most : ℕ

@@ -4,7 +4,7 @@ use mathlib.Core.List.{List, [], _∷_}
 use Prim.Native.Nat.{ℕ, suc, _≤_, _<_}
 use lib.IntN.{ℤ}
 use lib.ListN.{length, take}
-use Rattle.theory.specs.Limits.{sheet}
+use Rattle.theory.specs.Limits.{sheet-limit}
 use Rattle.theory.specs.Lists.{nums, ints, columns, StarList}
 use Rattle.theory.specs.Table.{entry}
 use Rattle.theory.specs.Canon.{NoTransversal, Solution, Index}
@@ -64,6 +64,6 @@ pub record ReadOf (input buffer : List ℕ) (n : ℕ) : Type 0 where
 -- The buffer holds one byte more than the longest sheet, and the room is enough. Whatever the input, of which the first n bytes of the
 -- buffer were read: its answer stands printed at the front of the room. There is no refusal.
 pub record InputPromise (buffer : List ℕ) (n : ℕ) (room room′ : List ℕ) (r : ℕ) : Type 0 where
-  pub one-more : length buffer ≡ suc sheet
+  pub one-more : length buffer ≡ suc sheet-limit
   pub roomy : length room ≡ enough
   pub answers : (input : List ℕ) → ReadOf input buffer n → Prints (SheetSays input) room room′ r

@@ -10,7 +10,7 @@ use native.Mathlib.Decide.{ℕ-discrete, decLt}
 use native.Mathlib.Omega.{arith}
 use lib.IntN.{ℤ}
 use Rattle.theory.specs.Totals.{totalℕ}
-use Rattle.theory.specs.Limits.{rows, order, handed}
+use Rattle.theory.specs.Limits.{row-limit, order-limit, addition-limit}
 use Rattle.theory.specs.Lists.{nums}
 use Rattle.theory.specs.Table.{entry}
 use Rattle.theory.specs.Canon.{AtMost, Transversal, OfMaxima, LeastFrom, Greatest}
@@ -155,25 +155,25 @@ module _ (limit b n : ℕ) (a : ℕ → ℕ → ℤ) (σ start : ℕ → ℕ) wh
 
 -- ---- at the border
 -- one round more than there are rows stays under the ceiling
-height-low : (n r : ℕ) → n ≤ rows → r ≤ n + 1 → height order handed n r ≤ ceiling
+height-low : (n r : ℕ) → n ≤ row-limit → r ≤ n + 1 → height order-limit addition-limit n r ≤ ceiling
 height-low n r small le =
-    let few : r ≤ rows + 1 = omega arith in
-    let low : n * (2 * order) ≤ rows * (2 * order) = omega arith in
-    omega (arith, mul-le-mul-right (n * (2 * order)) few, mul-le-mul-left (rows + 1) low)
+    let few : r ≤ row-limit + 1 = omega arith in
+    let low : n * (2 * order-limit) ≤ row-limit * (2 * order-limit) = omega arith in
+    omega (arith, mul-le-mul-right (n * (2 * order-limit)) few, mul-le-mul-left (row-limit + 1) low)
 
-pub before-ample : {n r : ℕ} {a : ℕ → ℕ → ℤ} {σ start l : ℕ → ℕ} → n ≤ rows → r ≤ n → BeforeRound order handed n a σ start r l
-    → (i : ℕ) → i < n → l i + n * (2 * order) ≤ ceiling
+pub before-ample : {n r : ℕ} {a : ℕ → ℕ → ℤ} {σ start l : ℕ → ℕ} → n ≤ row-limit → r ≤ n → BeforeRound order-limit addition-limit n a σ start r l
+    → (i : ℕ) → i < n → l i + n * (2 * order-limit) ≤ ceiling
 before-ample {n} {r} small le s i hi = omega (arith, s .bounded i hi, height-low n (r + 1) small (omega arith))
 
 -- The rounds are over when one changed nothing, or n have been made.
-pub climbed : {t : List ℤ} {n r : ℕ} {start column-of : List ℕ} {s : Raising} → n ≤ rows → r ≤ n + 1
-    → AfterRound order handed n (entry t n) (nums column-of) (nums start) r (s .ended) (nums (s .additions)) → (s .ended ≡ true) ⊎ (n ≤ r)
+pub climbed : {t : List ℤ} {n r : ℕ} {start column-of : List ℕ} {s : Raising} → n ≤ row-limit → r ≤ n + 1
+    → AfterRound order-limit addition-limit n (entry t n) (nums column-of) (nums start) r (s .ended) (nums (s .additions)) → (s .ended ≡ true) ⊎ (n ≤ r)
     → Climbed t n start column-of s
 climbed {t} {n} {r} {start} {column-of} {s} small le w over =
     record {
       least = λ q. record {
-        least = ends order handed n (entry t n) (nums column-of) (nums start) w q;
+        least = ends order-limit addition-limit n (entry t n) (nums column-of) (nums start) w q;
         canon = record { of-maxima = w .done q; under-ceiling = λ i hi. omega (arith, w .bounded i hi, height-low n r small le) };
       };
-      exceeded = λ q. elim over [ inl p ↦ clash p q | inr all ↦ fails order handed n (entry t n) (nums column-of) (nums start) w q all ];
+      exceeded = λ q. elim over [ inl p ↦ clash p q | inr all ↦ fails order-limit addition-limit n (entry t n) (nums column-of) (nums start) w q all ];
     }

@@ -8,7 +8,7 @@ use lib.Signed.{_≤ℤ_}
 use Rattle.theory.specs.Lists.{nums}
 use Rattle.theory.specs.Table.{Present, entry, Entries}
 use Rattle.theory.specs.Canon.{raised, OfMaxima, AtMost, Transversal}
-use Rattle.theory.specs.Limits.{order}
+use Rattle.theory.specs.Limits.{order-limit}
 use Rattle.orders.specs.Places.{ceiling, Square, UnderCeiling}
 
 -- the first k rows of a round from the additions l, of a table a whose orders are within the limit: rows are raised and never
@@ -29,7 +29,7 @@ Ample limit n l = (i : ℕ) → i < n → nums l i + n * (2 * limit) ≤ ceiling
 -- what a row's wanted addition is reckoned from: a tested table, additions under the ceiling, and a present place
 pub record Wanting (t : List ℤ) (n : ℕ) (l : List ℕ) (column i : ℕ) : Type 0 where
   pub square : Square t n
-  pub entries : Entries order t
+  pub entries : Entries order-limit t
   pub under-ceiling : UnderCeiling n l
   pub inside : column < n
   pub row : i < n
@@ -38,6 +38,6 @@ pub record Wanting (t : List ℤ) (n : ℕ) (l : List ℕ) (column i : ℕ) : Ty
 -- what a round begins with: a tested table, a transversal, and additions that leave a round under the ceiling
 pub record Rounding (t : List ℤ) (n : ℕ) (column-of l : List ℕ) : Type 0 where
   pub square : Square t n
-  pub entries : Entries order t
+  pub entries : Entries order-limit t
   pub transversal : Transversal n (entry t n) (nums column-of)
-  pub ample : Ample order n l
+  pub ample : Ample order-limit n l

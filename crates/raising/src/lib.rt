@@ -1,7 +1,7 @@
 use orders::ROWS;
 ghost use Prim.Native.Nat.{_<_};
 ghost use lib.IntN.{pos, _+ℤ_};
-ghost use Rattle.theory.specs.Limits.{order};
+ghost use Rattle.theory.specs.Limits.{order-limit};
 ghost use Rattle.theory.specs.Lists.{nums};
 ghost use Rattle.theory.specs.Table.{entry};
 ghost use Rattle.theory.specs.Canon.{Transversal, Head};
@@ -38,7 +38,7 @@ fn wanted(table: &[i16], n: usize, additions: &[u32; ROWS], column: usize, i: us
 fn round(n: usize, table: &[i16], column_of: &[usize; ROWS], additions: [u32; ROWS]) -> Raising
     requires { ⌜ Rounding (now table) n (now «column_of») additions ⌝ }
     ensures { λ r. ⌜ Round
-        order
+        order-limit
         n
         (entry (now (table .entry)) n)
         (nums (now («column_of» .entry)))

@@ -9,7 +9,7 @@ use lib.IntN.{ℤ}
 use lib.ListN.{length, getD, take, drop, set, replicate, length-append, length-replicate, replicate-append-replicate}
 use lib.Seq.{take-at, take-length, take-append-add, drop-append-add, set-split, paste, append-snoc}
 use Rattle.orders.specs.Tested.{Tells}
-use Rattle.theory.specs.Limits.{rows}
+use Rattle.theory.specs.Limits.{row-limit}
 use Rattle.theory.specs.Table.{absent}
 use Rattle.sheet.specs.Labels.{width, Form, New, Labels, filled, slots, slot, Repeated}
 use Rattle.sheet.specs.Reading.{State, After, heading, row-label, col-label, order-line, withRow, withCol, withOrder}
@@ -38,40 +38,40 @@ drop-replicate (suc k) zero a = let e : 0 ≡ 0 - suc k = omega arith in ap (λ 
 drop-replicate (suc k) (suc n) a = let e : n - k ≡ suc n - suc k = omega arith in drop-replicate k n a ∙ ap (λ i. replicate i a) e
 
 -- a label of at most 8 bytes put into the next place
-module _ (b : List ℕ) (ls : List (List ℕ)) (l : List ℕ) (h : Holding b ls) (s : Short ls) (few : length l ≤ width) (room : length ls < rows) where
+module _ (b : List ℕ) (ls : List (List ℕ)) (l : List ℕ) (h : Holding b ls) (s : Short ls) (few : length l ≤ width) (room : length ls < row-limit) where
   pub holding-more : Holding (paste b (width * length ls) l (length l)) (ls ++ (l ∷ []))
   unfolding slots
   holding-more =
       let k = width * length ls in
-      let n = width * rows - k in
+      let n = width * row-limit - k in
       let z : take k b ≡ slots ls = ap (λ x. take k x) h ∙ take-at (slots ls) (replicate n 0) k (slots-length ls s) in
       let y : drop (k + length l) b ≡ replicate (n - length l) 0 =
       ap (λ x. drop (k + length l) x) h
       ∙ ap (λ i. drop (i + length l) (slots ls ++ replicate n 0)) (sym (slots-length ls s))
       ∙ drop-append-add (slots ls) (replicate n 0) (length l) ∙ drop-replicate (length l) n 0 in
-      let m : (width - length l) + (width * rows - width * length (ls ++ (l ∷ []))) ≡ n - length l = omega (arith, length-more ls l) in
+      let m : (width - length l) + (width * row-limit - width * length (ls ++ (l ∷ []))) ≡ n - length l = omega (arith, length-more ls l) in
       ap (λ x. (x ++ take (length l) l) ++ drop (k + length l) b) z
       ∙ ap (λ x. (slots ls ++ x) ++ drop (k + length l) b) (take-length l)
       ∙ ap (λ x. (slots ls ++ l) ++ x)
       (y
       ∙ ap (λ i. replicate i 0) (sym m)
-      ∙ sym (replicate-append-replicate (width - length l) (width * rows - width * length (ls ++ (l ∷ []))) 0))
+      ∙ sym (replicate-append-replicate (width - length l) (width * row-limit - width * length (ls ++ (l ∷ []))) 0))
       ∙ append-assoc (slots ls) l
-      (replicate (width - length l) 0 ++ replicate (width * rows - width * length (ls ++ (l ∷ []))) 0)
+      (replicate (width - length l) 0 ++ replicate (width * row-limit - width * length (ls ++ (l ∷ []))) 0)
       ∙ ap (λ x. slots ls ++ x)
-      (sym (append-assoc l (replicate (width - length l) 0) (replicate (width * rows - width * length (ls ++ (l ∷ []))) 0)))
-      ∙ sym (append-assoc (slots ls) (filled l) (replicate (width * rows - width * length (ls ++ (l ∷ []))) 0))
-      ∙ ap (λ x. x ++ replicate (width * rows - width * length (ls ++ (l ∷ []))) 0)
+      (sym (append-assoc l (replicate (width - length l) 0) (replicate (width * row-limit - width * length (ls ++ (l ∷ []))) 0)))
+      ∙ sym (append-assoc (slots ls) (filled l) (replicate (width * row-limit - width * length (ls ++ (l ∷ []))) 0))
+      ∙ ap (λ x. x ++ replicate (width * row-limit - width * length (ls ++ (l ∷ []))) 0)
       (ap (λ x. slots ls ++ x) (sym (append-nil (filled l))) ∙ sym (slots-append ls (l ∷ [])))
 
-pub holding-length : (b : List ℕ) (ls : List (List ℕ)) → Holding b ls → Short ls → length ls ≤ rows → length b ≡ width * rows
+pub holding-length : (b : List ℕ) (ls : List (List ℕ)) → Holding b ls → Short ls → length ls ≤ row-limit → length b ≡ width * row-limit
 holding-length b ls h s few =
     ap length h
-    ∙ length-append (slots ls) (replicate (width * rows - width * length ls) 0)
-    ∙ omega (arith, slots-length ls s, length-replicate {A = ℕ} (width * rows - width * length ls) 0)
+    ∙ length-append (slots ls) (replicate (width * row-limit - width * length ls) 0)
+    ∙ omega (arith, slots-length ls s, length-replicate {A = ℕ} (width * row-limit - width * length ls) 0)
 
 -- the last label stands in an earlier place too exactly when it is not new
-module _ (b : List ℕ) (ls : List (List ℕ)) (l : List ℕ) (h : Holding b (ls ++ (l ∷ []))) (p : Labels ls) (f : Form l) (few : length ls < rows) where
+module _ (b : List ℕ) (ls : List (List ℕ)) (l : List ℕ) (h : Holding b (ls ++ (l ∷ []))) (p : Labels ls) (f : Form l) (few : length ls < row-limit) where
   module _ where
     last-short : Short (ls ++ (l ∷ []))
     last-short k g =
@@ -111,7 +111,7 @@ pub unkept-label : (ls : List (List ℕ)) (l b : List ℕ) → (Form l → New l
 unkept-label ls l b n = record { fit = λ e. clash {t = false} e refl; unfit = λ e. n }
 
 -- a label put into the next place is kept unless it stands in an earlier place too
-module _ (b : List ℕ) (ls : List (List ℕ)) (l : List ℕ) (h : Holding b ls) (p : Labels ls) (f : Form l) (few : length ls < rows) where
+module _ (b : List ℕ) (ls : List (List ℕ)) (l : List ℕ) (h : Holding b ls) (p : Labels ls) (f : Form l) (few : length ls < row-limit) where
   abbrev put : List ℕ
   put = paste b (width * length ls) l (length l)
 
@@ -163,11 +163,11 @@ more-length e p v h =
     ∙ omega (arith, length-append (replicate (p - length e) absent) (v ∷ []), length-replicate {A = ℤ} (p - length e) absent)
 
 -- the place of an order is inside the table
-pub place-small : (n i j : ℕ) → n ≤ rows → i < n → j < n → i * n + j < rows * rows
-place-small n i j h p q = omega (arith, cell n i j p q, mul-le-mul {n₁ = n} {m₁ = n} {n₂ = rows} {m₂ = rows} h h)
+pub place-small : (n i j : ℕ) → n ≤ row-limit → i < n → j < n → i * n + j < row-limit * row-limit
+place-small n i j h p q = omega (arith, cell n i j p q, mul-le-mul {n₁ = n} {m₁ = n} {n₂ = row-limit} {m₂ = row-limit} h h)
 
-pub row-small : (n i : ℕ) → n ≤ rows → i < n → i * n ≤ rows * rows
-row-small n i h p = mul-le-mul {n₁ = i} {m₁ = n} {n₂ = rows} {m₂ = rows} (omega arith) h
+pub row-small : (n i : ℕ) → n ≤ row-limit → i < n → i * n ≤ row-limit * row-limit
+row-small n i h p = mul-le-mul {n₁ = i} {m₁ = n} {n₂ = row-limit} {m₂ = row-limit} (omega arith) h
 
 -- ---- a line that is kept, and one that is not
 module _ {section : Section} {n k m : ℕ} {st : State} {l : List ℕ} {t : List ℤ} {b c : List ℕ} where
@@ -196,12 +196,12 @@ module _ (kept : Store) (n k m : ℕ) (l : List ℕ) (st : State) (h : Holds kep
       → LineKept Orders n (k + 1) m st l NoFit t b c
   unkept-order t b c g = line-unfit (λ st′ a. let o = orders-only st′ a in g (o .0) (o .1) (o .2) (o .3) (o .4))
 
-  pub kept-order : (i j : ℕ) (v : ℤ) → n ≤ rows → OrderIs n l i j v → length (st .entries) ≤ i * n + j
+  pub kept-order : (i j : ℕ) (v : ℤ) → n ≤ row-limit → OrderIs n l i j v → length (st .entries) ≤ i * n + j
       → LineKept Orders n (k + 1) m st l (Next (i * n + j + 1)) (set (kept .table) (i * n + j) v) (kept .row-bytes) (kept .col-bytes)
   kept-order i j v few o r =
       let w : length (st .row-labels) ≡ n = d .rows-are in
       let p = i * n + j in
-      let q : p < rows * rows = place-small n i j few (o .row) (o .col) in
+      let q : p < row-limit * row-limit = place-small n i j few (o .row) (o .col) in
       line-fit (p + 1) (withOrder st m p v)
       (order-line m i j v (d .section-is) (d .left-is) (omega (arith, o .row)) (omega (arith, o .col)) (o .order-stands) (rw w r) (o .is)
       (ap (λ x. withOrder st m (i * x + j) v) (sym w)))
@@ -211,7 +211,7 @@ module _ (kept : Store) (n k m : ℕ) (l : List ℕ) (st : State) (h : Holds kep
         cols-held = h .cols-held;
         rows-stand = h .rows-stand;
         cols-stand = h .cols-stand;
-        table-held = ap (λ x. set x p v) (h .table-held) ∙ table-more (st .entries) p v (rows * rows) r q;
+        table-held = ap (λ x. set x p v) (h .table-held) ∙ table-more (st .entries) p v (row-limit * row-limit) r q;
         next-held = sym (more-length (st .entries) p v r);
         few = omega (arith, more-length (st .entries) p v r);
       })

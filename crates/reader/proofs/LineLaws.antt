@@ -6,7 +6,7 @@ use native.Mathlib.Omega.{arith}
 use native.Mathlib.Nat.{mul-le-mul}
 use lib.IntN.{ℤ}
 use lib.ListN.{length, take, drop}
-use Rattle.theory.specs.Limits.{rows, order}
+use Rattle.theory.specs.Limits.{row-limit, order-limit}
 use Rattle.sheet.specs.Text.{blank, text, signed, rowsHead, colsHead, ordersHead}
 use Rattle.fields.specs.declared.Count.{Count}
 use Rattle.sheet.specs.Reading.{opening, of-rows, of-cols, Heading}
@@ -46,12 +46,12 @@ module _ (n : ℕ) (l : List ℕ) where
         none (j + 1) _ (field-of (drop a l) n (j + 1) (signed v) (omega arith) (omega (arith, o .col)) (r .1))
 
     module _ (j b : ℕ) (g : FieldIs (drop a l) n j b) where
-      pub no-order : ((v : ℤ) → SignedIs (drop b (drop a l)) order v → ⊥) → (i j : ℕ) (v : ℤ) → OrderIs n l i j v → ⊥
+      pub no-order : ((v : ℤ) → SignedIs (drop b (drop a l)) order-limit v → ⊥) → (i j : ℕ) (v : ℤ) → OrderIs n l i j v → ⊥
       no-order none i′ j′ v o =
           let r = behind-field f (i′ + 1) (text (j′ + 1) ++ blank ∷ signed v) (o .is) in
           none v (record { small = o .order-stands; is = behind-field g (j′ + 1) (signed v) (r .1) .1 })
 
-      pub order-good : (v : ℤ) → SignedIs (drop b (drop a l)) order v → OrderIs n l (i - 1) (j - 1) v
+      pub order-good : (v : ℤ) → SignedIs (drop b (drop a l)) order-limit v → OrderIs n l (i - 1) (j - 1) v
       order-good v h =
           let p : i ≡ i - 1 + 1 = omega (arith, f .some) in
           let q : j ≡ j - 1 + 1 = omega (arith, g .some) in
@@ -68,7 +68,7 @@ module _ (n : ℕ) (l : List ℕ) where
 
 -- the three headings: each is its bytes and then a count
 module _ (n : ℕ) (l : List ℕ) {r : Count} where
-  pub heading-rows : CountOf (CountAfter l rowsHead 1 rows) r → CountOf (λ c. Heading opening n c l) r
+  pub heading-rows : CountOf (CountAfter l rowsHead 1 row-limit) r → CountOf (λ c. Heading opening n c l) r
   heading-rows = count-as (λ c f. (f .least, f .most, f .is)) (λ c h. record { least = h .0; most = h .1; is = h .2 })
 
   pub heading-cols : CountOf (CountAfter l colsHead n n) r → CountOf (λ c. Heading of-rows n c l) r
@@ -93,5 +93,5 @@ module _ (section : Section) (n : ℕ) (s : List ℕ) where
     heading-good c h = record { line = take e s; is = h; ended = f .ended; inside = omega (arith, f .inside) }
 
 -- a square within the limit of rows
-pub square-small : (n : ℕ) → n ≤ rows → n * n ≤ rows * rows
+pub square-small : (n : ℕ) → n ≤ row-limit → n * n ≤ row-limit * row-limit
 square-small n h = mul-le-mul h h

@@ -7,7 +7,7 @@ use native.Mathlib.Omega.{arith}
 use lib.IntN.{ℤ}
 use lib.ListN.{length, take, drop, replicate, length-append}
 use lib.Seq.{take-at, take-append-add}
-use Rattle.theory.specs.Limits.{rows, sheet}
+use Rattle.theory.specs.Limits.{row-limit, sheet-limit}
 use Rattle.theory.specs.Table.{absent}
 use Rattle.orders.specs.Refusals.{Clear, WrongLength, gives, refuses}
 use Rattle.orders.proofs.Refusals.{right-not-wrong}
@@ -22,7 +22,7 @@ use Rattle.reader.proofs.KeepLaws.{take-replicate}
 use Rattle.reader.proofs.WalkLaws.{places-few}
 
 -- the three lengths
-pub wanted : (t : List ℤ) (r c : List ℕ) → length t ≡ rows * rows → length r ≡ width * rows → length c ≡ width * rows → Wanted (lent t r c)
+pub wanted : (t : List ℤ) (r c : List ℕ) → length t ≡ row-limit * row-limit → length r ≡ width * row-limit → length c ≡ width * row-limit → Wanted (lent t r c)
 wanted t r c p q u = record { table-length = p; rows-length = q; cols-length = u }
 
 -- to which refusal 2 does not apply
@@ -37,26 +37,26 @@ module _ (s : List ℕ) (m : Lent) (lengths : Wanted m) where
   pub refuse-long : TooLong s → ReadPromise s m m (refuses 9 [])
   refuse-long long = refused 9 (inr (lengths-right lengths, inl (long, refl))) refl refl
 
-  pub all-clear : length s ≤ sheet → Clear (reader-tests s m)
+  pub all-clear : length s ≤ sheet-limit → Clear (reader-tests s m)
   all-clear few = (lengths-right lengths, ((λ long. omega arith), tt))
 
-  pub refuse-line : length s ≤ sheet → (k : ℕ) → WrongLine s k → ReadPromise s m m (refuses 10 (k ∷ []))
+  pub refuse-line : length s ≤ sheet-limit → (k : ℕ) → WrongLine s k → ReadPromise s m m (refuses 10 (k ∷ []))
   refuse-line few k line = wrong-line k (all-clear few) line refl refl
 
 -- the first n × n entries of what is kept are the table's
-table-front : (e : List ℤ) (k : ℕ) → length e ≤ k → k ≤ rows * rows
-    → take k (e ++ replicate (rows * rows - length e) absent) ≡ e ++ replicate (k - length e) absent
+table-front : (e : List ℤ) (k : ℕ) → length e ≤ k → k ≤ row-limit * row-limit
+    → take k (e ++ replicate (row-limit * row-limit - length e) absent) ≡ e ++ replicate (k - length e) absent
 table-front e k h g =
     let q : k ≡ length e + (k - length e) = omega arith in
-    ap (λ i. take i (e ++ replicate (rows * rows - length e) absent)) q
-    ∙ take-append-add e (replicate (rows * rows - length e) absent) (k - length e)
-    ∙ ap (λ x. e ++ x) (take-replicate (k - length e) (rows * rows - length e) absent (omega arith))
+    ap (λ i. take i (e ++ replicate (row-limit * row-limit - length e) absent)) q
+    ∙ take-append-add e (replicate (row-limit * row-limit - length e) absent) (k - length e)
+    ∙ ap (λ x. e ++ x) (take-replicate (k - length e) (row-limit * row-limit - length e) absent (omega arith))
 
 -- the first bytes of a label buffer are the labels'
 labels-front : (b : List ℕ) (ls : List (List ℕ)) → Holding b ls → Labels ls → take (width * length ls) b ≡ slots ls
 labels-front b ls h p =
     ap (λ x. take (width * length ls) x) h
-    ∙ take-at (slots ls) (replicate (width * rows - width * length ls) 0) (width * length ls) (slots-length ls (labels-short ls p))
+    ∙ take-at (slots ls) (replicate (width * row-limit - width * length ls) 0) (width * length ls) (slots-length ls (labels-short ls p))
 
 -- a copy of the first k, where they are the whole of x, is x over the room
 copied : {A : Type 0} (x from room : List A) (k : ℕ) → length x ≡ k → take k from ≡ x → take k from ++ drop k room ≡ over x room
@@ -85,7 +85,7 @@ module _ {s : List ℕ} {n : ℕ} {t : List ℤ} {a b : List ℕ} (e : Ends s n 
       ∙ table-front (st .entries) (n * n) fit (places-few e)
       ∙ ap (λ x. st .entries ++ replicate (x * x - length (st .entries)) absent) (sym (e .rows-are)))
 
-  pub read-good : Wanted m → length s ≤ sheet → (t′ : List ℤ) (a′ b′ : List ℕ)
+  pub read-good : Wanted m → length s ≤ sheet-limit → (t′ : List ℤ) (a′ b′ : List ℕ)
       → t′ ≡ take (n * n) t ++ drop (n * n) (m .table)
       → a′ ≡ take (width * n) a ++ drop (width * n) (m .row-labels)
       → b′ ≡ take (width * n) b ++ drop (width * n) (m .col-labels) → ReadPromise s m (lent t′ a′ b′) (gives n)

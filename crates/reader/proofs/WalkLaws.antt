@@ -9,7 +9,7 @@ use lib.IntN.{ℤ}
 use lib.ListN.{length, drop, replicate, length-append, length-replicate, drop-of-length-le}
 use mir.Syntax.{w64}
 use mir.Val.{Fits}
-use Rattle.theory.specs.Limits.{rows}
+use Rattle.theory.specs.Limits.{row-limit}
 use Rattle.theory.specs.Table.{absent}
 use Rattle.sheet.specs.Labels.{width, slots}
 use Rattle.sheet.specs.Reading.{Ended, following, State, start, Heading, After, heading, row-label, col-label, order-line, begun}
@@ -104,7 +104,7 @@ module _ (n c : ℕ) where
 
 -- what a heading says of N, and of the section's lines
 module _ (n c : ℕ) (l : List ℕ) where
-  heading-few : (section : Section) → Heading (before section) n c l → n ≤ rows → size-after section n c ≤ rows
+  heading-few : (section : Section) → Heading (before section) n c l → n ≤ row-limit → size-after section n c ≤ row-limit
   heading-few Rows h few = h .1
   heading-few Cols h few = few
   heading-few Orders h few = few
@@ -126,13 +126,13 @@ module _ (n c : ℕ) (l : List ℕ) where
   heading-said Orders m e h = subst (λ x. Heading (before Orders) x c l) e h
 
 -- no more labels are kept than there are rows
-module _ (n c k : ℕ) (few : n ≤ rows) (inside : k ≤ c) where
-  rows-small : (section : Section) → Sized section n c → row-count section n k ≤ rows
+module _ (n c k : ℕ) (few : n ≤ row-limit) (inside : k ≤ c) where
+  rows-small : (section : Section) → Sized section n c → row-count section n k ≤ row-limit
   rows-small Rows z = omega arith
   rows-small Cols z = few
   rows-small Orders z = few
 
-  cols-small : (section : Section) → Sized section n c → col-count section n k ≤ rows
+  cols-small : (section : Section) → Sized section n c → col-count section n k ≤ row-limit
   cols-small Rows z = omega arith
   cols-small Cols z = omega arith
   cols-small Orders z = few
@@ -151,7 +151,7 @@ pub record BeforeHeading (s : List ℕ) (kept : Store) (section : Section) (n li
   pub none-left : st .left ≡ 0
   pub rows-are : length (st .row-labels) ≡ row-count section n 0
   pub cols-are : length (st .col-labels) ≡ col-count section n 0
-  pub few : n ≤ rows
+  pub few : n ≤ row-limit
 
 -- ---- before line k of c lines of a section, k counted from 0
 pub record BeforeLine (s : List ℕ) (kept : Store) (section : Section) (n line : ℕ) (rest : List ℕ) (c k : ℕ) : Type 0 where
@@ -162,10 +162,10 @@ pub record BeforeLine (s : List ℕ) (kept : Store) (section : Section) (n line 
   pub left-is : left + k ≡ c
   pub due : InSection section n k left st
   pub sized : Sized section n c
-  pub few : n ≤ rows
+  pub few : n ≤ row-limit
 
 -- before the first heading nothing is said and nothing kept
-pub holds-nothing : Holds (store (replicate (rows * rows) absent) (replicate (width * rows) 0) (replicate (width * rows) 0) 0) start
+pub holds-nothing : Holds (store (replicate (row-limit * row-limit) absent) (replicate (width * row-limit) 0) (replicate (width * row-limit) 0) 0) start
 unfolding slots
 holds-nothing =
     record {
@@ -355,22 +355,22 @@ module _ {s : List ℕ} {t : List ℤ} {a b : List ℕ} where
 
 -- what is kept of a good sheet is whole
 module _ {s : List ℕ} {n : ℕ} {t : List ℤ} {a b : List ℕ} (e : Ends s n t a b) where
-  pub places-few : n * n ≤ rows * rows
-  places-few = mul-le-mul {n₁ = n} {m₁ = n} {n₂ = rows} {m₂ = rows} (e .few) (e .few)
+  pub places-few : n * n ≤ row-limit * row-limit
+  places-few = mul-le-mul {n₁ = n} {m₁ = n} {n₂ = row-limit} {m₂ = row-limit} (e .few) (e .few)
 
-  pub table-whole : length t ≡ rows * rows
+  pub table-whole : length t ≡ row-limit * row-limit
   table-whole =
       let st = e .st in
       ap length (e .held .table-held)
-      ∙ length-append (st .entries) (replicate (rows * rows - length (st .entries)) absent)
-      ∙ omega (arith, e .held .few, length-replicate {A = ℤ} (rows * rows - length (st .entries)) absent)
+      ∙ length-append (st .entries) (replicate (row-limit * row-limit - length (st .entries)) absent)
+      ∙ omega (arith, e .held .few, length-replicate {A = ℤ} (row-limit * row-limit - length (st .entries)) absent)
 
-  pub rows-whole : length a ≡ width * rows
+  pub rows-whole : length a ≡ width * row-limit
   rows-whole =
       holding-length a (e .st .row-labels) (e .held .rows-held) (labels-short (e .st .row-labels) (e .held .rows-stand))
       (omega (arith, e .rows-are, e .few))
 
-  pub cols-whole : length b ≡ width * rows
+  pub cols-whole : length b ≡ width * row-limit
   cols-whole =
       holding-length b (e .st .col-labels) (e .held .cols-held) (labels-short (e .st .col-labels) (e .held .cols-stand))
       (omega (arith, e .cols-are, e .few))

@@ -5,7 +5,7 @@ use mathlib.Core.List.{List, [], _∷_, _++_}
 use Prim.Native.Nat.{ℕ, suc, _+_, _-_, _*_, _≤_, _<_}
 use lib.IntN.{ℤ}
 use lib.ListN.{length, drop, replicate}
-use Rattle.theory.specs.Limits.{rows, order}
+use Rattle.theory.specs.Limits.{row-limit, order-limit}
 use Rattle.theory.specs.Table.{absent, Order}
 use Rattle.sheet.specs.Labels.{width, Form, New, Labels, slots}
 use Rattle.sheet.specs.Sheet.{orderText}
@@ -27,7 +27,7 @@ use Rattle.reader.specs.declared.Walked.the-variants.{Rows as Walked·Ro
 pub record OrderIs (n : ℕ) (l : List ℕ) (i j : ℕ) (v : ℤ) : Type 0 where
   pub row : i < n
   pub col : j < n
-  pub order-stands : Order order v
+  pub order-stands : Order order-limit v
   pub is : l ≡ orderText i j v
 
 -- what was found has P; or nothing has
@@ -63,7 +63,7 @@ pub record HeadingIs (section : Section) (n : ℕ) (s : List ℕ) (c taken : ℕ
 -- ---- what is kept
 -- a label buffer of the reader holds these labels, and zero bytes after them
 abbrev pub Holding : List ℕ → List (List ℕ) → Type 0
-Holding b ls = b ≡ slots ls ++ replicate (width * rows - width * length ls) 0
+Holding b ls = b ≡ slots ls ++ replicate (width * row-limit - width * length ls) 0
 
 -- after the labels ls the line l was fit to be a label, and the buffer b holds it too; or it was not
 pub record LabelKept (ls : List (List ℕ)) (l : List ℕ) (fits : Bool) (b : List ℕ) : Type 0 where
@@ -87,9 +87,9 @@ pub record Holds (kept : Store) (st : State) : Type 0 where
   pub cols-held : Holding (kept .col-bytes) (st .col-labels)
   pub rows-stand : Labels (st .row-labels)
   pub cols-stand : Labels (st .col-labels)
-  pub table-held : kept .table ≡ st .entries ++ replicate (rows * rows - length (st .entries)) absent
+  pub table-held : kept .table ≡ st .entries ++ replicate (row-limit * row-limit - length (st .entries)) absent
   pub next-held : kept .next ≡ length (st .entries)
-  pub few : length (st .entries) ≤ rows * rows
+  pub few : length (st .entries) ≤ row-limit * row-limit
 
 -- ---- the lines of a section
 -- so many labels of rows, and of columns, stand before line k of a section, which counts from 0
@@ -112,16 +112,16 @@ pub record InSection (section : Section) (n k m : ℕ) (st : State) : Type 0 whe
 
 -- a label buffer has a place for line k of a section of labels
 abbrev pub FewLabels : Section → ℕ → Type 0
-FewLabels Rows k = k < rows
-FewLabels Cols k = k < rows
+FewLabels Rows k = k < row-limit
+FewLabels Cols k = k < row-limit
 FewLabels Orders k = Unit
 
 -- line k of a section may be kept: N and k are within the limits, and the label buffers are whole
 pub record Within (section : Section) (n k : ℕ) (b c : List ℕ) : Type 0 where
-  pub few : n ≤ rows
+  pub few : n ≤ row-limit
   pub room : FewLabels section k
-  pub rows-whole : length b ≡ width * rows
-  pub cols-whole : length c ≡ width * rows
+  pub rows-whole : length b ≡ width * row-limit
+  pub cols-whole : length c ≡ width * row-limit
 
 -- the line l can stand after those of st, as the last before line k of a section, and what it says is kept; or it cannot
 pub record LineKept (section : Section) (n k m : ℕ) (st : State) (l : List ℕ) (r : Fit) (t : List ℤ) (b c : List ℕ) : Type 0 where
@@ -158,7 +158,7 @@ pub record Ends (s : List ℕ) (n : ℕ) (t : List ℤ) (b c : List ℕ) : Type 
   pub held : Holds (store t b c next) st
   pub rows-are : length (st .row-labels) ≡ n
   pub cols-are : length (st .col-labels) ≡ n
-  pub few : n ≤ rows
+  pub few : n ≤ row-limit
 
 pub record WalkTells (s : List ℕ) (r : Walked) (t : List ℤ) (b c : List ℕ) : Type 0 where
   pub ended : (n : ℕ) → r ≡ Walked·Rows n → Ends s n t b c

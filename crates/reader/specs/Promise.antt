@@ -4,7 +4,7 @@ use mathlib.Core.List.{List, [], _∷_}
 use Prim.Native.Nat.{ℕ, _*_}
 use lib.IntN.{ℤ}
 use lib.ListN.{length}
-use Rattle.theory.specs.Limits.{rows}
+use Rattle.theory.specs.Limits.{row-limit}
 use Rattle.orders.specs.Refusals.{Said, gives, refuses, refusal, Test, _given-when_, First, Clear, Slice, _wanted_, WrongLength}
 use Rattle.sheet.specs.Text.{over}
 use Rattle.sheet.specs.Labels.{width, slots}
@@ -29,16 +29,16 @@ lent t r c = record { table = t; row-labels = r; col-labels = c }
 
 -- "The reader's table has 1,024 entries and each label buffer 256 bytes"
 pub record Wanted (m : Lent) : Type 0 where
-  pub table-length : length (m .table) ≡ rows * rows
-  pub rows-length : length (m .row-labels) ≡ width * rows
-  pub cols-length : length (m .col-labels) ≡ width * rows
+  pub table-length : length (m .table) ≡ row-limit * row-limit
+  pub rows-length : length (m .row-labels) ≡ width * row-limit
+  pub cols-length : length (m .col-labels) ≡ width * row-limit
 
 -- the same for refusal 2
 abbrev pub slices : Lent → List Slice
 slices m =
-    length (m .table) wanted rows * rows ∷
-    length (m .row-labels) wanted width * rows ∷
-    length (m .col-labels) wanted width * rows ∷ []
+    length (m .table) wanted row-limit * row-limit ∷
+    length (m .row-labels) wanted width * row-limit ∷
+    length (m .col-labels) wanted width * row-limit ∷ []
 
 -- "Reader: 2, 9, 10": the two that are tested before the lines are read
 abbrev pub reader-tests : List ℕ → Lent → List Test

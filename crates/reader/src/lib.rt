@@ -5,7 +5,7 @@ ghost use lib.ListN.{length, take, drop};
 ghost use Rattle.reader.specs.Parts.{OrderIs, PlaceOf, before, size-after, HeadingIs};
 ghost use Rattle.reader.specs.Parts.{Holding, LabelKept, store, Holds, Within, Keeps, KeepsFront, WalkTells};
 ghost use Rattle.fields.specs.Fields.{FrontOf, CountOf};
-ghost use Rattle.theory.specs.Limits.{rows};
+ghost use Rattle.theory.specs.Limits.{row-limit};
 ghost use Rattle.sheet.specs.Labels.{Labels, width};
 ghost use Rattle.sheet.specs.Reading.{Heading, start};
 ghost use lib.Seq.{paste};
@@ -70,7 +70,7 @@ enum Walked {
 // The order that a line says: its row, its column and the order, each handed the rest of the line. Rules out a row or a column
 // outside 1 to N, and row and column exchanged.
 fn order_line(line: &[u8], n: usize) -> Place
-    requires { ⌜ n ≤ rows ⌝ }
+    requires { ⌜ n ≤ row-limit ⌝ }
     ensures { λ r. ⌜ PlaceOf (OrderIs n (now (line .entry))) r ⌝ }
 {
     let Front::Number { value: i, taken: a } = number_field(line, n) else {
@@ -92,7 +92,7 @@ fn order_line(line: &[u8], n: usize) -> Place
 
 // The count of a section's heading. Rules out another section's heading, and a count of columns that is not N.
 fn heading_count(section: Section, n: usize, line: &[u8]) -> Count
-    requires { ⌜ n ≤ rows ⌝ }
+    requires { ⌜ n ≤ row-limit ⌝ }
     ensures { λ r. ⌜ CountOf (λ c. Heading (before section) n c (now (line .entry))) r ⌝ }
 {
     match section {
@@ -105,7 +105,7 @@ fn heading_count(section: Section, n: usize, line: &[u8]) -> Count
 // A section's heading, found at the front of the rest of the sheet: its count, and the bytes that it takes. Rules out a heading that
 // is not a whole line, and bytes of the next line taken with it.
 fn heading(section: Section, n: usize, rest: &[u8]) -> Front
-    requires { ⌜ n ≤ rows ⌝ }
+    requires { ⌜ n ≤ row-limit ⌝ }
     ensures { λ r. ⌜ FrontOf (HeadingIs section n (now (rest .entry))) r ⌝ }
 {
     let Count::Of(end) = line_end(rest) else {
@@ -135,7 +135,7 @@ fn size_after(section: Section, n: usize, count: usize) -> usize
 // The line's bytes in place k of the labels, filled up with zero bytes that stand there already. Rules out a byte of another
 // label changed.
 fn put_label(k: usize, line: &[u8], labels: &mut [u8; LABELS])
-    requires { ⌜ (width * k + length (now line) ≤ width * rows) × (length (now labels) ≡ width * rows) ⌝ }
+    requires { ⌜ (width * k + length (now line) ≤ width * row-limit) × (length (now labels) ≡ width * row-limit) ⌝ }
     ensures { λ _. ⌜ now (labels .exit) ≡ paste (now (labels .entry)) (width * k) (now (line .entry)) (length (now (line .entry))) ⌝ }
 {
     let at = WIDTH * k;
@@ -149,7 +149,7 @@ fn put_label(k: usize, line: &[u8], labels: &mut [u8; LABELS])
 // Keeps the line as label k, and says whether it was fit: it has the form of a label and is unlike those before it. Rules out a line
 // that is not fit and passes, and a fit one that is turned away. What an unfit line leaves in the labels is not said: the walk ends.
 fn keep_label(k: usize, line: &[u8], labels: &mut [u8; LABELS]) -> bool
-    requires { ⌜ (k < rows) × (length (now labels) ≡ width * rows) ⌝ }
+    requires { ⌜ (k < row-limit) × (length (now labels) ≡ width * row-limit) ⌝ }
     ensures { λ r. ⌜ ((ls : List (List ℕ))
         → Holding (now (labels .entry)) ls
         → length ls ≡ k
@@ -166,7 +166,7 @@ fn keep_label(k: usize, line: &[u8], labels: &mut [u8; LABELS]) -> bool
 // Keeps the line as an order, if it says one at a place that no line before has reached. Rules out an order at another place or of
 // another value, and a place named twice.
 fn keep_order(n: usize, next: usize, line: &[u8], table: &mut [i16; PLACES]) -> Fit
-    requires { ⌜ n ≤ rows ⌝ }
+    requires { ⌜ n ≤ row-limit ⌝ }
     ensures { λ r. ⌜ ((b c : List ℕ) (k : ℕ)
         → Keeps Section.Orders n k (store (now (table .entry)) b c next) (now (line .entry)) r (now (table .exit)) b c) ⌝ }
 {
@@ -317,7 +317,7 @@ fn walk(
 
 // The first bytes of what was kept, copied over the front of a lent buffer. Rules out a byte changed after them.
 fn copy_bytes(from: &[u8; LABELS], count: usize, to: &mut [u8])
-    requires { ⌜ (count ≤ width * rows) × (count ≤ length (now to)) × (length (now from) ≡ width * rows) ⌝ }
+    requires { ⌜ (count ≤ width * row-limit) × (count ≤ length (now to)) × (length (now from) ≡ width * row-limit) ⌝ }
     ensures { λ _. ⌜ now (to .exit) ≡ take count (now (from .entry)) ++ drop count (now (to .entry)) ⌝ }
 {
     let mut i = 0;
@@ -329,7 +329,7 @@ fn copy_bytes(from: &[u8; LABELS], count: usize, to: &mut [u8])
 
 // The same of entries. Rules out an entry changed after them.
 fn copy_entries(from: &[i16; PLACES], count: usize, to: &mut [i16])
-    requires { ⌜ (count ≤ rows * rows) × (count ≤ length (now to)) × (length (now from) ≡ rows * rows) ⌝ }
+    requires { ⌜ (count ≤ row-limit * row-limit) × (count ≤ length (now to)) × (length (now from) ≡ row-limit * row-limit) ⌝ }
     ensures { λ _. ⌜ now (to .exit) ≡ take count (now (from .entry)) ++ drop count (now (to .entry)) ⌝ }
 {
     let mut i = 0;

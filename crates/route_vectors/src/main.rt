@@ -342,7 +342,8 @@ fn print_outcome(
 
 // Lends each list as a slice of its array.
 fn lend(call: u64, n: usize, table: Table, given: List, adds: List, stars: List, heads: Heads)
-    requires { ⌜ (table .count ≤ length (table .values)) × (given .count ≤ length (given .values)) × (adds .count ≤ length (adds .values)) × (stars .count ≤ length (stars .values)) × (heads .count ≤ length (heads .values)) ⌝ }
+    requires { ⌜ (table .count ≤ length (table .values)) × (given .count ≤ length (given .values)) × (adds .count ≤ length (adds .values))
+        × (stars .count ≤ length (stars .values)) × (heads .count ≤ length (heads .values)) ⌝ }
 {
     let entries = table.values;
     let entries_count = table.count;

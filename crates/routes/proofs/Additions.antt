@@ -6,7 +6,7 @@ use Prim.Native.Nat.{ℕ, _<_}
 use native.Mathlib.Omega.{arith}
 use lib.IntN.{ℤ}
 use lib.ListN.{length, replicate}
-use Rattle.theory.specs.Limits.{rows}
+use Rattle.theory.specs.Limits.{row-limit}
 use Rattle.theory.specs.Lists.{nums}
 use Rattle.theory.specs.Table.{entry}
 use Rattle.theory.specs.Canon.{SomeTransversal, NoTransversal, Canon, Simplest}
@@ -28,8 +28,8 @@ module _ {t : List ℤ} {n : ℕ} {given : List ℕ} (g : GivenAdditions t n giv
   startable = record { square = g .square; entries = g .entries; handed-in = λ i hi. rw (agrees i hi) (g .limited i hi) }
 
   -- no complete transversal
-  pub reduced-none : {l rows columns : List ℕ} → NoTransversal n (entry t n)
-      → ReducedFrom t n given (record { found = false; canon = false; unchanged = false; additions = l; rows = rows; columns = columns })
+  pub reduced-none : {l row-limit columns : List ℕ} → NoTransversal n (entry t n)
+      → ReducedFrom t n given (record { found = false; canon = false; unchanged = false; additions = l; rows = row-limit; columns = columns })
   reduced-none no-one =
       record {
         none = λ e. no-one;
@@ -51,8 +51,8 @@ module _ {t : List ℤ} {n : ℕ} {given : List ℕ} (g : GivenAdditions t n giv
         let own = canon-same n (entry t n) (λ i hi. sym (agrees i hi)) c in
         omega (arith, w .least .from-start i hi, w .least .least (nums start) own (λ i hi. omega arith) i hi)
 
-    pub reduced-moved : {l′ rows columns′ : List ℕ} → (((i : ℕ) → i < n → nums l i ≡ nums start i) → ⊥)
-        → ReducedFrom t n given (record { found = true; canon = false; unchanged = false; additions = l′; rows = rows; columns = columns′ })
+    pub reduced-moved : {l′ row-limit columns′ : List ℕ} → (((i : ℕ) → i < n → nums l i ≡ nums start i) → ⊥)
+        → ReducedFrom t n given (record { found = true; canon = false; unchanged = false; additions = l′; rows = row-limit; columns = columns′ })
     reduced-moved moved =
         record {
           none = λ e. clash refl e;
@@ -64,12 +64,12 @@ module _ {t : List ℤ} {n : ℕ} {given : List ℕ} (g : GivenAdditions t n giv
           judged = λ e. clash e refl;
         }
 
-    pub canon-given : CanonGiven t n columns l (replicate rows 0)
+    pub canon-given : CanonGiven t n columns l (replicate row-limit 0)
     canon-given = record { square = g .square; canon-by = w .canon; not-below = λ i hi. zero-start _ i }
 
     -- the least canon, and whether it is what was handed in
     pub reduced-canon : (least row-of : List ℕ) (unchanged : Bool) → ((i : ℕ) → i < n → nums l i ≡ nums start i)
-        → Marks n (nums row-of) (nums columns) → LeastBy t n (nums (replicate rows 0)) least columns
+        → Marks n (nums row-of) (nums columns) → LeastBy t n (nums (replicate row-limit 0)) least columns
         → Tells unchanged ((i : ℕ) → i < n → nums least i ≡ nums start i)
         → ReducedFrom t n given (record { found = true; canon = true; unchanged = unchanged; additions = least; rows = row-of; columns = columns })
     reduced-canon least row-of unchanged same marks low told =

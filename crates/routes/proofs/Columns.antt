@@ -8,7 +8,7 @@ use native.Mathlib.Omega.{arith}
 use lib.IntN.{ℤ, ℤ-discrete}
 use lib.ListN.{replicate}
 use lib.Signed.{ltZ}
-use Rattle.theory.specs.Limits.{rows}
+use Rattle.theory.specs.Limits.{row-limit}
 use Rattle.theory.specs.Lists.{nums}
 use Rattle.theory.specs.Table.{absent, Present, entry}
 use Rattle.theory.specs.Canon.{Transversal, LeastFrom, Greatest, Misplaced, on-absent, exceeded, sum}
@@ -47,14 +47,14 @@ module _ (n : ℕ) (a : ℕ → ℕ → ℤ) where
   well-placed {σ} g (exceeded τ t lt) = omega (arith, signed, g .greatest τ t)
 
 module _ {t : List ℤ} {n : ℕ} {column-of : List ℕ} (g : GivenColumns t n column-of) where
-  pub from-zeros : Startable t n (replicate rows 0)
+  pub from-zeros : Startable t n (replicate row-limit 0)
   from-zeros = record { square = g .square; entries = g .entries; handed-in = λ i hi. zero-start _ i }
 
   pub transversal-of : ((i : ℕ) → i < n → Present (entry t n i (nums column-of i))) → Transversal n (entry t n) (nums column-of)
   transversal-of p = record { inside = g .inside; present = p; apart = g .apart }
 
   -- the rounds ended
-  pub raised-ended : {r : Raising} → Climbed t n (replicate rows 0) column-of r → r .ended ≡ true
+  pub raised-ended : {r : Raising} → Climbed t n (replicate row-limit 0) column-of r → r .ended ≡ true
       → RaisedFrom t n column-of (record { found = true; greatest = true; additions = r .additions })
   raised-ended {r} c e =
       let of-maxima = c .least e .canon .of-maxima in
@@ -67,8 +67,8 @@ module _ {t : List ℤ} {n : ℕ} {column-of : List ℕ} (g : GivenColumns t n c
       }
 
   -- they did not, or a place is absent: growth from zeros tells whether there is a transversal at all
-  pub raised-failed : {w : Grown} (l : List ℕ) → GrownFrom t n (replicate rows 0) w
-      → ((m τ : ℕ → ℕ) → LeastFrom n (entry t n) (nums (replicate rows 0)) m → Greatest n (entry t n) τ → Misplaced n (entry t n) (nums column-of))
+  pub raised-failed : {w : Grown} (l : List ℕ) → GrownFrom t n (replicate row-limit 0) w
+      → ((m τ : ℕ → ℕ) → LeastFrom n (entry t n) (nums (replicate row-limit 0)) m → Greatest n (entry t n) τ → Misplaced n (entry t n) (nums column-of))
       → RaisedFrom t n column-of (record { found = w .found; greatest = false; additions = l })
   raised-failed {w} l grown wrong =
       record {
@@ -81,8 +81,8 @@ module _ {t : List ℤ} {n : ℕ} {column-of : List ℕ} (g : GivenColumns t n c
         least = λ h. clash h refl;
       }
 
-  pub endless : {r : Raising} → Climbed t n (replicate rows 0) column-of r → r .ended ≡ false → Transversal n (entry t n) (nums column-of)
-      → (m τ : ℕ → ℕ) → LeastFrom n (entry t n) (nums (replicate rows 0)) m → Greatest n (entry t n) τ → Misplaced n (entry t n) (nums column-of)
+  pub endless : {r : Raising} → Climbed t n (replicate row-limit 0) column-of r → r .ended ≡ false → Transversal n (entry t n) (nums column-of)
+      → (m τ : ℕ → ℕ) → LeastFrom n (entry t n) (nums (replicate row-limit 0)) m → Greatest n (entry t n) τ → Misplaced n (entry t n) (nums column-of)
   endless c e tr m τ s gr = not-greatest n (entry t n) tr gr (c .exceeded e m s)
 
   pub absent-place : (((i : ℕ) → i < n → Present (entry t n i (nums column-of i))) → ⊥) → Misplaced n (entry t n) (nums column-of)

@@ -5,7 +5,7 @@ use mathlib.Core.List.{List}
 use Prim.Native.Nat.{ℕ, _≤_, _<_}
 use lib.IntN.{ℤ}
 use lib.ListN.{length}
-use Rattle.theory.specs.Limits.{order, handed}
+use Rattle.theory.specs.Limits.{order-limit, addition-limit}
 use Rattle.theory.specs.Lists.{nums}
 use Rattle.theory.specs.Table.{entry, Entries}
 use Rattle.theory.specs.Canon.{SomeTransversal, NoTransversal, Canon, Simplest, Misplaced}
@@ -18,9 +18,9 @@ use Rattle.routes.specs.declared.Raised.{Raised}
 -- a table that was tested, and additions within the limit
 pub record GivenAdditions (t : List ℤ) (n : ℕ) (given : List ℕ) : Type 0 where
   pub square : Square t n
-  pub entries : Entries order t
+  pub entries : Entries order-limit t
   pub long : length given ≡ n
-  pub limited : (i : ℕ) → i < n → nums given i ≤ handed
+  pub limited : (i : ℕ) → i < n → nums given i ≤ addition-limit
 
 -- what is known of additions handed in
 pub record ReducedFrom (t : List ℤ) (n : ℕ) (given : List ℕ) (r : Reduced) : Type 0 where
@@ -35,7 +35,7 @@ pub record ReducedFrom (t : List ℤ) (n : ℕ) (given : List ℕ) (r : Reduced)
 -- a table that was tested, and columns inside it, no two the same
 pub record GivenColumns (t : List ℤ) (n : ℕ) (column-of : List ℕ) : Type 0 where
   pub square : Square t n
-  pub entries : Entries order t
+  pub entries : Entries order-limit t
   pub inside : (i : ℕ) → i < n → nums column-of i < n
   pub apart : (i k : ℕ) → i < n → k < n → nums column-of i ≡ nums column-of k → i ≡ k
 

@@ -11,7 +11,7 @@ use borrow.Author.Tests.{ne-eqb}
 use lib.Dec.{eqb}
 use lib.IntN.{ℤ, pos, negsuc, negℤ}
 use lib.ListN.{length, getD, drop, length-append}
-use Rattle.theory.specs.Limits.{rows, order}
+use Rattle.theory.specs.Limits.{row-limit, order-limit}
 use Rattle.theory.specs.Table.{Order}
 use Rattle.theory.proofs.Signed.{signed as signs}
 use Rattle.sheet.specs.Text.{Each, feed, blank, minus, text, signed, rowsHead, colsHead, ordersHead}
@@ -93,7 +93,7 @@ heading-count of-orders n c l h = absurd h
 unfoldable counted-dec : (s : Section) (n c : ℕ) (l : List ℕ) → Dec (Heading s n c l)
 unfolding turned Dec·and same-text
 counted-dec opening n c l =
-    turned (λ w. (w .0, w .1 .0, w .1 .1)) (λ w. (w .0, (w .1, w .2))) (Dec·and (decLe 1 c) (Dec·and (decLe c rows) (same-text l (rowsHead ++ text c))))
+    turned (λ w. (w .0, w .1 .0, w .1 .1)) (λ w. (w .0, (w .1, w .2))) (Dec·and (decLe 1 c) (Dec·and (decLe c row-limit) (same-text l (rowsHead ++ text c))))
 counted-dec of-rows n c l = Dec·and (ℕ-discrete c n) (same-text l (colsHead ++ text c))
 counted-dec of-cols n c l =
     turned (λ w. (w .0, w .1 .0, w .1 .1)) (λ w. (w .0, (w .1, w .2)))
@@ -145,14 +145,14 @@ fields-of l i j v e =
 
 -- the line l has the order v in row i and column j, in a table of n rows, at a place not before p
 abbrev OrderAt : ℕ → ℕ → List ℕ → ℕ → ℕ → ℤ → Type 0
-OrderAt n p l i j v = (i < n) × ((j < n) × (Order order v × ((p ≤ i * n + j) × (l ≡ orderText i j v))))
+OrderAt n p l i j v = (i < n) × ((j < n) × (Order order-limit v × ((p ≤ i * n + j) × (l ≡ orderText i j v))))
 
-unfoldable order-dec : (v : ℤ) → Dec (Order order v)
+unfoldable order-dec : (v : ℤ) → Dec (Order order-limit v)
 unfolding turned
 order-dec (pos x) =
-    turned (λ h. record { low = omega (arith, signs); high = omega (arith, signs) }) (λ o. omega (arith, signs, o .high)) (decLe x order)
+    turned (λ h. record { low = omega (arith, signs); high = omega (arith, signs) }) (λ o. omega (arith, signs, o .high)) (decLe x order-limit)
 order-dec (negsuc x) =
-    turned (λ h. record { low = omega (arith, signs); high = omega (arith, signs) }) (λ o. omega (arith, signs, o .low)) (decLe (suc x) order)
+    turned (λ h. record { low = omega (arith, signs); high = omega (arith, signs) }) (λ o. omega (arith, signs, o .low)) (decLe (suc x) order-limit)
 
 unfoldable place-dec : (n p : ℕ) (l : List ℕ) (i j : ℕ) (v : ℤ) → Dec (OrderAt n p l i j v)
 unfolding Dec·and order-dec same-text

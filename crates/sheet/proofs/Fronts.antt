@@ -7,7 +7,7 @@ use native.Mathlib.Omega.{arith}
 use native.Mathlib.Decide.{ℕ-discrete}
 use lib.IntN.{ℤ}
 use lib.ListN.{length, getD, length-append}
-use Rattle.theory.specs.Limits.{rows}
+use Rattle.theory.specs.Limits.{row-limit}
 use Rattle.theory.proofs.Pigeonhole.{exists, crowded}
 use Rattle.sheet.specs.Text.{text, rowsHead, colsHead, ordersHead}
 use Rattle.sheet.specs.Labels.{LetterOrDigit, digit, Form, New, Labels}
@@ -71,7 +71,7 @@ new-label ls = go (exists (λ i. New ls (text i)) (λ i. new-dec (look ls (text 
         absurd (crowded (length ls) f (λ i k h q e. text-once i k (sym (g i h .1) ∙ ap (λ p. getD ls p []) e ∙ g k q .1)) (λ i h. g i h .0))
 
 -- a number that is no more than the limit of rows has the form of a label
-text-form : (i : ℕ) → i ≤ rows → Form (text i)
+text-form : (i : ℕ) → i ≤ row-limit → Form (text i)
 text-form i h =
     record {
       some = text-some i;
@@ -85,7 +85,7 @@ pub record MoreLabels (ls : List (List ℕ)) (m : ℕ) : Type 0 where
   pub many : m ≡ length others
   pub labels : Labels (ls ++ others)
 
-more-labels : (m : ℕ) (ls : List (List ℕ)) → Labels ls → length ls + m ≤ rows → MoreLabels ls m
+more-labels : (m : ℕ) (ls : List (List ℕ)) → Labels ls → length ls + m ≤ row-limit → MoreLabels ls m
 more-labels zero ls p h = record { others = []; many = refl; labels = subst⁻¹ (λ x. Labels x) (append-nil ls) p }
 more-labels (suc m) ls p h =
     let f = new-label ls in
@@ -101,7 +101,7 @@ pub record Onward (st : State) : Type 0 where
   pub run : Run st others end
   pub last : end .section ≡ of-orders
 
-from-cols : (m : ℕ) (rs cs : List (List ℕ)) → Labels cs → length cs + m ≡ length rs → length rs ≤ rows → Onward (inCols m rs cs)
+from-cols : (m : ℕ) (rs cs : List (List ℕ)) → Labels cs → length cs + m ≡ length rs → length rs ≤ row-limit → Onward (inCols m rs cs)
 from-cols m rs cs p e h =
     let r = more-labels m cs p (omega arith) in
     record {
@@ -113,7 +113,7 @@ from-cols m rs cs p e h =
       last = refl;
     }
 
-from-rows : (m : ℕ) (rs : List (List ℕ)) → Labels rs → length rs + m ≤ rows → Onward (inRows m rs)
+from-rows : (m : ℕ) (rs : List (List ℕ)) → Labels rs → length rs + m ≤ row-limit → Onward (inRows m rs)
 from-rows m rs p h =
     let r = more-labels m rs p h in
     let rs′ = rs ++ r .others in

@@ -7,7 +7,7 @@ use Prim.Native.Nat.{ℕ, zero, suc, _+_, _-_, _*_, _/_, _%_, _<_, _≤_}
 use native.Mathlib.Omega.{arith}
 use lib.IntN.{ℤ}
 use lib.ListN.{length, replicate, length-append, length-replicate}
-use Rattle.theory.specs.Limits.{rows, order}
+use Rattle.theory.specs.Limits.{row-limit, order-limit}
 use Rattle.theory.specs.Table.{absent, Order, Entries}
 use Rattle.sheet.specs.Text.{text, rowsHead, colsHead, ordersHead}
 use Rattle.sheet.specs.Labels.{Labels}
@@ -35,7 +35,7 @@ inOrders m rs cs e = record { section = of-orders; left = m; row-labels = rs; co
 -- labels of rows and of columns within the limits, as many of the one as of the other
 pub record Framed (rs cs : List (List ℕ)) : Type 0 where
   pub some : 1 ≤ length rs
-  pub few : length rs ≤ rows
+  pub few : length rs ≤ row-limit
   pub same : length cs ≡ length rs
   pub rows-stand : Labels rs
   pub cols-stand : Labels cs
@@ -43,19 +43,19 @@ pub record Framed (rs cs : List (List ℕ)) : Type 0 where
 -- The lines so far are the front of a sheet: in each section the heading's count is that of the lines that stand and of those still due.
 pub data Stage : State → List (List ℕ) → Type 0 where
   at-start : Stage start []
-  in-rows : {ls : List (List ℕ)} (c m : ℕ) (rs : List (List ℕ)) → length rs + m ≡ c → 1 ≤ c → c ≤ rows → Labels rs → ls ≡ headed rowsHead c rs
+  in-rows : {ls : List (List ℕ)} (c m : ℕ) (rs : List (List ℕ)) → length rs + m ≡ c → 1 ≤ c → c ≤ row-limit → Labels rs → ls ≡ headed rowsHead c rs
       → Stage (inRows m rs) ls
-  in-cols : {ls : List (List ℕ)} (m : ℕ) (rs cs : List (List ℕ)) → length cs + m ≡ length rs → 1 ≤ length rs → length rs ≤ rows → Labels rs → Labels cs
+  in-cols : {ls : List (List ℕ)} (m : ℕ) (rs cs : List (List ℕ)) → length cs + m ≡ length rs → 1 ≤ length rs → length rs ≤ row-limit → Labels rs → Labels cs
       → ls ≡ headed rowsHead (length rs) rs ++ headed colsHead (length rs) cs → Stage (inCols m rs cs) ls
   in-orders : {ls : List (List ℕ)} (m : ℕ) (rs cs : List (List ℕ)) (e : List ℤ) → Framed rs cs → presentCount e + m ≤ length rs * length rs
-      → length e ≤ length rs * length rs → Entries order e
+      → length e ≤ length rs * length rs → Entries order-limit e
       → ls ≡ sheetLines (presentCount e + m) (record { row-labels = rs; col-labels = cs; entries = e }) → Stage (inOrders m rs cs e) ls
 
 -- the entries of one order more
 more : (n : ℕ) (e : List ℤ) (i j : ℕ) (v : ℤ) → List ℤ
 more n e i j v = e ++ (replicate (i * n + j - length e) absent ++ (v ∷ []))
 
-module _ (n : ℕ) (e : List ℤ) (i j : ℕ) (v : ℤ) (row : i < n) (col : j < n) (o : Order order v) (rising : length e ≤ i * n + j) where
+module _ (n : ℕ) (e : List ℤ) (i j : ℕ) (v : ℤ) (row : i < n) (col : j < n) (o : Order order-limit v) (rising : length e ≤ i * n + j) where
   more-length : length (more n e i j v) ≡ i * n + j + 1
   unfolding more
   more-length =
@@ -83,7 +83,7 @@ module _ (n : ℕ) (e : List ℤ) (i j : ℕ) (v : ℤ) (row : i < n) (col : j <
       ∙ ap (λ x. orderText x ((i * n + j) % n) v ∷ []) (place-row n i j col)
       ∙ ap (λ x. orderText i x v ∷ []) (place-col n i j col))
 
-  more-stand : Entries order e → Entries order (more n e i j v)
+  more-stand : Entries order-limit e → Entries order-limit (more n e i j v)
   unfolding more
   more-stand p =
       entries-append e (replicate (i * n + j - length e) absent ++ (v ∷ [])) p
@@ -253,7 +253,7 @@ module _ (rs cs : List (List ℕ)) (m : ℕ) where
         run = subst (λ x. Run (inOrders (presentCount r + m) rs cs e) (orderLines (length rs) x r) (inOrders m rs cs (q .said))) h (q .run);
       })
 
-  present-next : (e : List ℤ) (d : ℕ) (v : ℤ) (r : List ℤ) → isAbsent v ≡ false → length e + d < length rs * length rs → Order order v
+  present-next : (e : List ℤ) (d : ℕ) (v : ℤ) (r : List ℤ) → isAbsent v ≡ false → length e + d < length rs * length rs → Order order-limit v
       → Rest (more (length rs) e ((length e + d) / length rs) ((length e + d) % length rs) v) 0 r → Rest e d (v ∷ r)
   unfolding orderLines presentCount more
   present-next e d v r f w o q =
@@ -283,19 +283,19 @@ module _ (rs cs : List (List ℕ)) (m : ℕ) where
       })
 
   orders-by : (e : List ℤ) (d : ℕ) (v : ℤ) (r : List ℤ) (t : Bool) → isAbsent v ≡ t → length e + d + length (v ∷ r) ≡ length rs * length rs
-      → Entries order (v ∷ r) → ((e′ : List ℤ) (d′ : ℕ) → length e′ + d′ + length r ≡ length rs * length rs → Rest e′ d′ r) → Rest e d (v ∷ r)
+      → Entries order-limit (v ∷ r) → ((e′ : List ℤ) (d′ : ℕ) → length e′ + d′ + length r ≡ length rs * length rs → Rest e′ d′ r) → Rest e d (v ∷ r)
   orders-by e d v r true f g s rec = absent-next e d v r f (rec e (suc d) (omega arith))
   orders-by e d v r false f g s rec =
       let n = length rs in
       let p = length e + d in
       let w : p < n * n = omega arith in
       let c = row-col n p w in
-      let o : Order order v = s 0 (omega arith) (absent-not v f) in
+      let o : Order order-limit v = s 0 (omega arith) (absent-not v f) in
       present-next e d v r f w o
       (rec (more n e (p / n) (p % n) v) 0
       (omega (arith, more-length n e (p / n) (p % n) v (row-inside n p w) (col-inside n p w) o (omega arith))))
 
-  run-orders : (r e : List ℤ) (d : ℕ) → length e + d + length r ≡ length rs * length rs → Entries order r → Rest e d r
+  run-orders : (r e : List ℤ) (d : ℕ) → length e + d + length r ≡ length rs * length rs → Entries order-limit r → Rest e d r
   unfolding orderLines presentCount
   run-orders [] e d g s =
       let k : 0 + m ≡ m = omega arith in

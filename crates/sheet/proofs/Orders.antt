@@ -10,7 +10,7 @@ use borrow.Author.Tests.{ne-eqb, eqb-true}
 use lib.IntN.{ℤ, pos, negsuc}
 use lib.ListN.{length, getD, replicate, length-append, length-replicate, List·getD-append, getD-replicate}
 use lib.Seq.{getD-append-add}
-use Rattle.theory.specs.Limits.{order}
+use Rattle.theory.specs.Limits.{order-limit}
 use Rattle.theory.specs.Table.{absent, Present, Order, Entries}
 use Rattle.theory.proofs.Signed.{signed}
 pub use Rattle.orders.proofs.Places.{cell}
@@ -56,7 +56,7 @@ absent-is (negsuc n) e = ap negsuc (eqb-true n 32767 e)
 pub absent-not : (v : ℤ) → isAbsent v ≡ false → Present v
 absent-not v e p = clash {t = isAbsent v} (ap isAbsent p) e
 
-pub order-present : (v : ℤ) → Order order v → isAbsent v ≡ false
+pub order-present : (v : ℤ) → Order order-limit v → isAbsent v ≡ false
 order-present (pos n) o = refl
 order-present (negsuc n) o = ne-eqb n 32767 (λ e. omega (arith, signed, o .low))
 
@@ -134,14 +134,14 @@ module _ (n p : ℕ) (inside : p < n * n) where
   row-col = div-add-mod' p n
 
 -- entries in two parts stand if both do
-pub entries-none : Entries order []
+pub entries-none : Entries order-limit []
 entries-none k h p = absurd (omega arith)
 
 module _ (a b : List ℤ) where
-  pub entries-append : Entries order a → Entries order b → Entries order (a ++ b)
+  pub entries-append : Entries order-limit a → Entries order-limit b → Entries order-limit (a ++ b)
   entries-append p q k h = go (native.Mathlib.Decide.decLt k (length a))
     where
-      go : Dec (k < length a) → Present (getD (a ++ b) k (pos 0)) → Order order (getD (a ++ b) k (pos 0))
+      go : Dec (k < length a) → Present (getD (a ++ b) k (pos 0)) → Order order-limit (getD (a ++ b) k (pos 0))
       go (yes g) = rw (List·getD-append a b (pos 0) k g) (p k g)
       go (no g) =
           let e : k ≡ length a + (k - length a) = omega arith in
@@ -149,15 +149,15 @@ module _ (a b : List ℤ) where
           ap (λ i. getD (a ++ b) i (pos 0)) e ∙ getD-append-add a b (k - length a) (pos 0) in
           rw f (q (k - length a) (omega (arith, length-append a b)))
 
-  pub entries-right : Entries order (a ++ b) → Entries order b
+  pub entries-right : Entries order-limit (a ++ b) → Entries order-limit b
   entries-right p k h =
       let f : getD (a ++ b) (length a + k) (pos 0) ≡ getD b k (pos 0) = getD-append-add a b k (pos 0) in
       rw f at (p (length a + k) (omega (arith, length-append a b)))
 
-pub entries-absent : (d : ℕ) → Entries order (replicate d absent)
+pub entries-absent : (d : ℕ) → Entries order-limit (replicate d absent)
 entries-absent d k h p =
     absurd (p (getD-replicate d k absent (pos 0) (omega (arith, length-replicate {A = ℤ} d absent))))
 
-pub entries-one : (v : ℤ) → Order order v → Entries order (v ∷ [])
+pub entries-one : (v : ℤ) → Order order-limit v → Entries order-limit (v ∷ [])
 entries-one v o zero h p = o
 entries-one v o (suc k) h p = absurd (omega arith)

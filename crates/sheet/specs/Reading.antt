@@ -6,7 +6,7 @@ use mathlib.Core.List.{List, [], _∷_, _++_}
 use Prim.Native.Nat.{ℕ, suc, _+_, _-_, _*_, _≤_, _<_}
 use lib.IntN.{ℤ}
 use lib.ListN.{length, replicate}
-use Rattle.theory.specs.Limits.{rows, order, sheet}
+use Rattle.theory.specs.Limits.{row-limit, order-limit, sheet-limit}
 use Rattle.theory.specs.Table.{absent, Order}
 use Rattle.sheet.specs.Text.{feed, text, Each, rowsHead, colsHead, ordersHead}
 use Rattle.sheet.specs.Labels.{Form, New}
@@ -46,7 +46,7 @@ start = record { section = opening; left = 0; row-labels = []; col-labels = []; 
 -- the line l is the heading with count c of the section that comes after: "`rows N`", "`cols N`, the same N", "`orders K`";
 -- "N is 1 to 32, K is 0 to N × N"
 abbrev pub Heading : Section → ℕ → ℕ → List ℕ → Type 0
-Heading opening n c l = (1 ≤ c) × (c ≤ rows) × (l ≡ rowsHead ++ text c)
+Heading opening n c l = (1 ≤ c) × (c ≤ row-limit) × (l ≡ rowsHead ++ text c)
 Heading of-rows n c l = (c ≡ n) × (l ≡ colsHead ++ text c)
 Heading of-cols n c l = (0 ≤ c) × (c ≤ n * n) × (l ≡ ordersHead ++ text c)
 Heading of-orders n c l = ⊥
@@ -102,7 +102,7 @@ pub data After (st : State) (l : List ℕ) (st′ : State) : Type 0 where
   col-label : (m : ℕ) → st .section ≡ of-cols → st .left ≡ suc m → Form l → New (st .col-labels) l → st′ ≡ withCol st m l → After st l st′
   -- an order: "i and j are 1 to N, v is −100 to 100", at a place that no line so far has reached
   order-line : (m i j : ℕ) (v : ℤ) → st .section ≡ of-orders → st .left ≡ suc m → i < length (st .row-labels) → j < length (st .row-labels)
-      → Order order v → length (st .entries) ≤ i * length (st .row-labels) + j → l ≡ orderText i j v
+      → Order order-limit v → length (st .entries) ≤ i * length (st .row-labels) + j → l ≡ orderText i j v
       → st′ ≡ withOrder st m (i * length (st .row-labels) + j) v → After st l st′
 
 -- no line is due any more
@@ -140,7 +140,7 @@ pub data Reads : State → ℕ → List ℕ → Outcome → Type 0 where
 -- ---- the refusals of a sheet
 -- 9: "a sheet is longer than 12,288 bytes"
 abbrev pub TooLong : List ℕ → Type 0
-TooLong s = sheet < length s
+TooLong s = sheet-limit < length s
 
 -- 10: "a line of a sheet is wrong", "and its number (from 1) is reported"
 abbrev pub WrongLine : List ℕ → ℕ → Type 0

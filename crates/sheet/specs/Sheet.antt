@@ -6,7 +6,7 @@ use Prim.Native.Nat.{ℕ, suc, _+_, _*_, _/_, _%_, _≤_}
 use lib.Dec.{eqb}
 use lib.IntN.{ℤ, pos, negsuc}
 use lib.ListN.{length}
-use Rattle.theory.specs.Limits.{rows, order}
+use Rattle.theory.specs.Limits.{row-limit, order-limit}
 use Rattle.theory.specs.Table.{absent, Entries}
 use Rattle.sheet.specs.Text.{blank, text, signed, ended, rowsHead, colsHead, ordersHead}
 use Rattle.sheet.specs.Labels.{Labels}
@@ -20,12 +20,12 @@ pub record Labelled : Type 0 where
 -- a labelled table within document 01's limits
 pub record Stands (t : Labelled) : Type 0 where
   pub some : 1 ≤ length (t .row-labels)
-  pub few : length (t .row-labels) ≤ rows
+  pub few : length (t .row-labels) ≤ row-limit
   pub same : length (t .col-labels) ≡ length (t .row-labels)
   pub square : length (t .entries) ≡ length (t .row-labels) * length (t .row-labels)
   pub rows-stand : Labels (t .row-labels)
   pub cols-stand : Labels (t .col-labels)
-  pub entries-stand : Entries order (t .entries)
+  pub entries-stand : Entries order-limit (t .entries)
 
 -- "every line ended by one line feed": the bytes of lines
 unfoldable pub endedLines : List (List ℕ) → List ℕ

@@ -3,7 +3,7 @@ use mathlib.Core.List.{List, [], _∷_, _++_}
 use Prim.Native.Nat.{ℕ, _+_}
 use Prim.Native.String.{String}
 use lib.IntN.{pos, negsuc}
-use Rattle.theory.specs.Limits.{rows, order}
+use Rattle.theory.specs.Limits.{row-limit, order-limit}
 use Rattle.sheet.specs.Text.{ascii, text, signed, ended, rowsHead}
 use Rattle.sheet.specs.FirstWrong.{FirstWrong}
 
@@ -29,7 +29,7 @@ wrong-sheets =
     line 1 "" ∷
     -- "N is 1 to 32"
     line 1 "rows 0\n" ∷
-    bytes 1 (ended (rowsHead ++ text (rows + 1))) ∷
+    bytes 1 (ended (rowsHead ++ text (row-limit + 1))) ∷
     -- "no leading zero, no plus", "by its exact bytes"
     line 1 "rows +1\na\n" ∷
     line 1 "rows 01\na\n" ∷
@@ -49,8 +49,8 @@ wrong-sheets =
     line 6 "rows 1\na\ncols 1\nx\norders 1\n1 1 +1\n" ∷
     line 6 "rows 1\na\ncols 1\nx\norders 1\n1  1 1\n" ∷
     -- "i and j are 1 to N, v is −100 to 100"
-    bytes 6 (ascii "rows 1\na\ncols 1\nx\norders 1\n1 1 " ++ ended (signed (pos (order + 1)))) ∷
-    bytes 6 (ascii "rows 1\na\ncols 1\nx\norders 1\n1 1 " ++ ended (signed (negsuc order))) ∷
+    bytes 6 (ascii "rows 1\na\ncols 1\nx\norders 1\n1 1 " ++ ended (signed (pos (order-limit + 1)))) ∷
+    bytes 6 (ascii "rows 1\na\ncols 1\nx\norders 1\n1 1 " ++ ended (signed (negsuc order-limit))) ∷
     line 6 "rows 1\na\ncols 1\nx\norders 1\n1 2 0\n" ∷
     line 6 "rows 1\na\ncols 1\nx\norders 1\n0 1 0\n" ∷
     -- "row before column, strictly rising"

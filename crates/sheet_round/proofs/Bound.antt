@@ -7,7 +7,7 @@ use native.Mathlib.Omega.{arith}
 use native.Mathlib.Nat.{mul-le-mul, mul-suc}
 use lib.IntN.{ℤ, pos, negsuc}
 use lib.ListN.{length, length-append}
-use Rattle.theory.specs.Limits.{rows, order, sheet}
+use Rattle.theory.specs.Limits.{row-limit, order-limit, sheet-limit}
 use Rattle.theory.specs.Table.{Present, Order, Entries}
 use Rattle.theory.proofs.Signed.{signed as signs}
 use Rattle.sheet.specs.Text.{feed, digits, text, signed, ended, rowsHead, colsHead, ordersHead}
@@ -20,12 +20,12 @@ use Rattle.writer.proofs.OrderLaws.{order-text-length, line-absent, line-presen
 
 -- the most bytes of an order line: two numbers up to the limit of rows, an order with its minus, and three bytes between and behind them
 abbrev order-most : ℕ
-order-most = length (text rows) + length (text rows) + (length (text order) + 1) + 3
+order-most = length (text row-limit) + length (text row-limit) + (length (text order-limit) + 1) + 3
 
 -- the most bytes of a sheet: three headings, N labels twice, N × N orders
-limits-fit : length rowsHead + length (text rows) + 1 + label-most * rows + (length colsHead + length (text rows) + 1 + label-most * rows)
-    + (length ordersHead + length (text (rows * rows)) + 1 + order-most * (rows * rows))
-    ≤ sheet
+limits-fit : length rowsHead + length (text row-limit) + 1 + label-most * row-limit + (length colsHead + length (text row-limit) + 1 + label-most * row-limit)
+    + (length ordersHead + length (text (row-limit * row-limit)) + 1 + order-most * (row-limit * row-limit))
+    ≤ sheet-limit
 unfolding text digits
 limits-fit = omega arith
 
@@ -41,23 +41,24 @@ lines-short (l ∷ ls) s =
       length-append l (feed ∷ []),
     )
 
-signed-short : (v : ℤ) → Order order v → length (signed v) ≤ length (text order) + 1
-signed-short (pos n) o = omega (arith, text-mono order n (omega (arith, signs, o .high)))
-signed-short (negsuc n) o = omega (arith, text-mono order (suc n) (omega (arith, signs, o .low)))
+signed-short : (v : ℤ) → Order order-limit v → length (signed v) ≤ length (text order-limit) + 1
+signed-short (pos n) o = omega (arith, text-mono order-limit n (omega (arith, signs, o .high)))
+signed-short (negsuc n) o = omega (arith, text-mono order-limit (suc n) (omega (arith, signs, o .low)))
 
-line-short : (n p : ℕ) (v : ℤ) (t : Bool) → isAbsent v ≡ t → n ≤ rows → p < n * n → (Present v → Order order v) → length (entryBytes n p v) ≤ order-most
+line-short : (n p : ℕ) (v : ℤ) (t : Bool) → isAbsent v ≡ t → n ≤ row-limit → p < n * n
+    → (Present v → Order order-limit v) → length (entryBytes n p v) ≤ order-most
 line-short n p v true e h g o = omega (arith, ap length (line-absent n p v e))
 line-short n p v false e h g o =
     omega (
       arith,
       ap length (line-present n p v e),
       order-text-length (p / n) (p % n) v,
-      text-mono rows (p / n + 1) (omega (arith, row-inside n p g)),
-      text-mono rows (p % n + 1) (omega (arith, col-inside n p g)),
+      text-mono row-limit (p / n + 1) (omega (arith, row-inside n p g)),
+      text-mono row-limit (p % n + 1) (omega (arith, col-inside n p g)),
       signed-short v (o (absent-not v e)),
     )
 
-orders-short : (n p : ℕ) (e : List ℤ) → n ≤ rows → p + length e ≤ n * n → Entries order e → length (orderBytes n p e) ≤ order-most * length e
+orders-short : (n p : ℕ) (e : List ℤ) → n ≤ row-limit → p + length e ≤ n * n → Entries order-limit e → length (orderBytes n p e) ≤ order-most * length e
 unfolding endedLines orderLines
 orders-short n p [] h g s = omega arith
 orders-short n p (v ∷ e) h g s =
@@ -73,14 +74,14 @@ orders-short n p (v ∷ e) h g s =
 heading-length : (h : List ℕ) (c : ℕ) → length (ended (h ++ text c)) ≡ length h + length (text c) + 1
 heading-length h c = length-append (h ++ text c) (feed ∷ []) ∙ omega (arith, length-append h (text c))
 
-pub sheet-fits : (t : Labelled) → Stands t → length (sheetOf t) ≤ sheet
+pub sheet-fits : (t : Labelled) → Stands t → length (sheetOf t) ≤ sheet-limit
 sheet-fits t w =
     let n = length (t .row-labels) in
     let m = length (t .col-labels) in
     let e = t .entries in
-    let q : n * n ≤ rows * rows = mul-le-mul {n₁ = n} {m₁ = n} {n₂ = rows} {m₂ = rows} (w .few) (w .few) in
-    let r : order-most * length e ≤ order-most * (rows * rows) =
-    mul-le-mul {n₁ = order-most} {m₁ = length e} {n₂ = order-most} {m₂ = rows * rows} (omega arith) (omega (arith, w .square)) in
+    let q : n * n ≤ row-limit * row-limit = mul-le-mul {n₁ = n} {m₁ = n} {n₂ = row-limit} {m₂ = row-limit} (w .few) (w .few) in
+    let r : order-most * length e ≤ order-most * (row-limit * row-limit) =
+    mul-le-mul {n₁ = order-most} {m₁ = length e} {n₂ = order-most} {m₂ = row-limit * row-limit} (omega arith) (omega (arith, w .square)) in
     omega (
       arith,
       limits-fit,
@@ -93,9 +94,9 @@ sheet-fits t w =
       heading-length rowsHead n,
       heading-length colsHead m,
       heading-length ordersHead (presentCount e),
-      text-mono rows n (w .few),
-      text-mono rows m (omega (arith, w .few, w .same)),
-      text-mono (rows * rows) (presentCount e) (omega (arith, count-le e, w .square)),
+      text-mono row-limit n (w .few),
+      text-mono row-limit m (omega (arith, w .few, w .same)),
+      text-mono (row-limit * row-limit) (presentCount e) (omega (arith, count-le e, w .square)),
       lines-short (t .row-labels) (labels-short (t .row-labels) (w .rows-stand)),
       lines-short (t .col-labels) (labels-short (t .col-labels) (w .cols-stand)),
       orders-short n 0 e (w .few) (omega (arith, w .square)) (w .entries-stand),

@@ -6,7 +6,7 @@ use Prim.Native.Nat.{ℕ, _*_, _≤_}
 use native.Mathlib.Omega.{arith}
 use lib.ListN.{length, take, drop}
 use lib.Seq.{take-at}
-use Rattle.theory.specs.Limits.{order}
+use Rattle.theory.specs.Limits.{order-limit}
 use Rattle.theory.specs.Table.{Entries}
 use Rattle.orders.specs.Refusals.{Said, gives, Clear, WrongLength}
 use Rattle.orders.proofs.Refusals.{given-once, not-both, right-lengths}
@@ -54,7 +54,7 @@ model-stands h o t c l =
       square = ap length (l .entries-are) ∙ w .table-length ∙ ap (λ x. x * x) (sym r);
       rows-stand = l .rows-stand;
       cols-stand = l .cols-stand;
-      entries-stand = subst⁻¹ (λ x. Entries order x) (l .entries-are) (entries-known (h .table) (c .1 .1 .0));
+      entries-stand = subst⁻¹ (λ x. Entries order-limit x) (l .entries-are) (entries-known (h .table) (c .1 .1 .0));
     }
 
 -- what a reader answers to the sheet that was written for t
@@ -112,6 +112,6 @@ write-back s m m′ n (read t c r f e) o o′ a g p =
     (wrote t
     (write-clear h o (in-size (λ z. omega (arith, st .some)) (omega (arith, st .few)))
     (record { table-length = ap length te ∙ tl; rows-length = ap length re ∙ rl; cols-length = ap length ce ∙ cl })
-    (subst⁻¹ (λ y. Entries order y) te (st .entries-stand)) t is (omega (arith, ap length (x .is))))
+    (subst⁻¹ (λ y. Entries order-limit y) te (st .entries-stand)) t is (omega (arith, ap length (x .is))))
     is (ap (λ y. gives (length y)) (x .is)) (ap (λ y. over y o) (x .is))) in
     record { answer = u .answer; memory = u .memory }

@@ -8,7 +8,7 @@ use Prim.Native.Nat.{ℕ, zero, suc, _*_, _<_, _≤_}
 use native.Mathlib.Omega.{arith}
 use lib.IntN.{ℤ, pos}
 use lib.ListN.{length, getD, take, replicate, length-replicate}
-use Rattle.theory.specs.Limits.{rows, order, sheet}
+use Rattle.theory.specs.Limits.{row-limit, order-limit, sheet-limit}
 use Rattle.theory.specs.Table.{absent, Entries}
 use Rattle.orders.specs.Refusals.{Said, gives, refuses}
 use Rattle.orders.proofs.Refusals.{given-once, not-both}
@@ -147,7 +147,7 @@ label-a =
     at zero h = record { some = omega arith; few = omega arith; letters = letter }
     at (suc k) h = absurd (omega arith)
 
-single-stands : (v : ℤ) → Entries order (v ∷ []) → Stands (single v)
+single-stands : (v : ℤ) → Entries order-limit (v ∷ []) → Stands (single v)
 single-stands v e =
     record {
       some = omega arith;
@@ -162,7 +162,7 @@ single-stands v e =
 empty-stands : Stands empty
 empty-stands = single-stands absent go
   where
-    go : Entries order (absent ∷ [])
+    go : Entries order-limit (absent ∷ [])
     go zero h p = absurd (p refl)
     go (suc k) h p = absurd (omega arith)
 
@@ -176,23 +176,23 @@ empty-is-not-nought e =
 
 -- buffers of the wanted lengths are there to be lent
 abbrev pub zeros : Lent
-zeros = lent (replicate (rows * rows) (pos 0)) (replicate (width * rows) 0) (replicate (width * rows) 0)
+zeros = lent (replicate (row-limit * row-limit) (pos 0)) (replicate (width * row-limit) 0) (replicate (width * row-limit) 0)
 
 pub zeros-are-wanted : reading.Wanted zeros
 zeros-are-wanted =
     record {
-      table-length = length-replicate {A = ℤ} (rows * rows) (pos 0);
-      rows-length = length-replicate {A = ℕ} (width * rows) 0;
-      cols-length = length-replicate {A = ℕ} (width * rows) 0;
+      table-length = length-replicate {A = ℤ} (row-limit * row-limit) (pos 0);
+      rows-length = length-replicate {A = ℕ} (width * row-limit) 0;
+      cols-length = length-replicate {A = ℕ} (width * row-limit) 0;
     }
 
 -- and so is room for the two sheets
 abbrev pub room : List ℕ
-room = replicate sheet 0
+room = replicate sheet-limit 0
 
 pub room-is-enough : (length (sheetOf empty) ≤ length room) × (length (sheetOf nought) ≤ length room)
 room-is-enough =
-    let l = length-replicate {A = ℕ} sheet 0 in
+    let l = length-replicate {A = ℕ} sheet-limit 0 in
     (omega (arith, sheet-fits empty empty-stands, l), omega (arith, sheet-fits nought nought-stands, l))
 
 -- "a reader .. that always refuses": the sheet of the table `0` is not refused

@@ -5,7 +5,7 @@ use mathlib.Core.Logic.{_⊎_}
 use mathlib.Core.List.{List, [], _∷_}
 use Prim.Native.Nat.{ℕ, _*_, _≤_}
 use lib.ListN.{length, take}
-use Rattle.theory.specs.Limits.{sheet}
+use Rattle.theory.specs.Limits.{sheet-limit}
 use Rattle.orders.specs.Refusals.{Said, gives, First, Clear, Applies, due, Proper}
 use Rattle.sheet.specs.Text.{over}
 use Rattle.sheet.specs.Labels.{width}
@@ -36,7 +36,7 @@ pub record SheetCalls : Type 0 where
 pub record OneToOne : Type 0 where
   -- every labelled table within the limits has a sheet, which is read as that table and is never too long,
   pub read-as-written : (t : Labelled) → Stands t → Reads start 1 (sheetOf t) (good t)
-  pub never-too-long : (t : Labelled) → Stands t → length (sheetOf t) ≤ sheet
+  pub never-too-long : (t : Labelled) → Stands t → length (sheetOf t) ≤ sheet-limit
   -- and no other table has it
   pub one-table : (t u : Labelled) → Stands t → Stands u → sheetOf t ≡ sheetOf u → t ≡ u
   -- every sheet that is read as a labelled table is the sheet of that table, byte for byte, and the table is within the limits,

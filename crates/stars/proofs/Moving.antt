@@ -7,7 +7,7 @@ use native.Mathlib.Decide.{decLt}
 use native.Mathlib.Omega.{arith}
 use lib.IntN.{ℤ}
 use lib.ListN.{replicate, getD-replicate}
-use Rattle.theory.specs.Limits.{rows}
+use Rattle.theory.specs.Limits.{row-limit}
 use Rattle.theory.specs.Lists.{nums}
 use Rattle.theory.specs.Table.{entry}
 use Rattle.theory.specs.Canon.{Maximum}
@@ -40,10 +40,10 @@ starred-so {t} {n} {l} {w} {i} {j} {later} maxima late hi b own = record {
 
 -- ---- otherwise the ways are searched and the marks shifted
 -- arrays of zeros: no row is found yet
-pub unsearched : {n : ℕ} → n ≤ rows → Unsearched n (replicate rows 0) (replicate rows 0)
-unsearched small = record { long-next = refl; long-step = refl; none = λ x h. getD-replicate rows x 0 0 (omega arith) }
+pub unsearched : {n : ℕ} → n ≤ row-limit → Unsearched n (replicate row-limit 0) (replicate row-limit 0)
+unsearched small = record { long-next = refl; long-step = refl; none = λ x h. getD-replicate row-limit x 0 0 (omega arith) }
 
-module _ {t : List ℤ} {n : ℕ} {l : List ℕ} {i j : ℕ} {w₀ : MarkArrays} {next step : List ℕ} (small : n ≤ rows) (maxima : MaximaIn t n l w₀) (hi : i < n)
+module _ {t : List ℤ} {n : ℕ} {l : List ℕ} {i j : ℕ} {w₀ : MarkArrays} {next step : List ℕ} (small : n ≤ row-limit) (maxima : MaximaIn t n l w₀) (hi : i < n)
     (s : Searched t n l i (w₀ .columns) next step)
     (b : LeastColumn n (entry t n) (nums l) (nums (w₀ .rows)) (nums step) i (nums (w₀ .columns) i) j) where
   own : nums (w₀ .columns) i < n

@@ -7,7 +7,7 @@ use native.Mathlib.Omega.{arith}
 use lib.IntN.{ℤ}
 use lib.ListN.{set, length-set, replicate, getD-replicate}
 use lib.Seq.{getD-set-other}
-use Rattle.theory.specs.Limits.{rows}
+use Rattle.theory.specs.Limits.{row-limit}
 use Rattle.theory.specs.Lists.{nums}
 use Rattle.theory.specs.Table.{entry}
 use Rattle.theory.specs.Canon.{Stars}
@@ -21,11 +21,11 @@ pub record Progress (t : List ℤ) (n : ℕ) (l : List ℕ) (w : MarkArrays) (la
   pub first : (x : ℕ) → x < i → FirstAt t n l (nums (w .columns)) x
 
 module _ {t : List ℤ} {n : ℕ} {l : List ℕ} {w : MarkArrays} where
-  pub progress-start : n ≤ rows → MaximaIn t n l w → Progress t n l w (replicate rows 1) 0
+  pub progress-start : n ≤ row-limit → MaximaIn t n l w → Progress t n l w (replicate row-limit 1) 0
   progress-start small maxima = record {
     below = omega arith;
     maxima = maxima;
-    eligible = record { long = refl; late = λ k hk h. omega (arith, getD-replicate {A = ℕ} rows k 1 0 (omega arith)) };
+    eligible = record { long = refl; late = λ k hk h. omega (arith, getD-replicate {A = ℕ} row-limit k 1 0 (omega arith)) };
     first = λ x h. absurd (omega arith);
   }
 

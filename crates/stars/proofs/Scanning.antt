@@ -7,7 +7,7 @@ use native.Mathlib.Decide.{ℕ-discrete}
 use native.Mathlib.Omega.{arith}
 use lib.IntN.{ℤ}
 use lib.ListN.{length, set, length-set}
-use Rattle.theory.specs.Limits.{rows}
+use Rattle.theory.specs.Limits.{row-limit}
 use Rattle.theory.specs.Lists.{nums}
 use Rattle.theory.specs.Table.{entry}
 use Rattle.theory.specs.Canon.{Maximum}
@@ -55,7 +55,7 @@ module _ {t : List ℤ} {n : ℕ} {l : List ℕ} {i : ℕ} {columns : List ℕ} 
       all = scanned-next n (entry t n) (nums l) i (nums columns m) (nums (r .step)) k (s .all) new;
     }
 
-    pub scan-join : {r′ : Ways} → n ≤ rows → k < n → i < k → nums (r .step) k ≡ 0 → m < n → 0 < nums (w .step) m → nums columns m < n
+    pub scan-join : {r′ : Ways} → n ≤ row-limit → k < n → i < k → nums (r .step) k ≡ 0 → m < n → 0 < nums (w .step) m → nums columns m < n
         → Maximum n (entry t n) (nums l) k (nums columns m) → Joined r k m r′ → Scanned t n l i columns m (k + 1) w r′
     scan-join {r′} small hk later none hm known column max j =
         let long = s .ways .long in
@@ -74,7 +74,7 @@ module _ {t : List ℤ} {n : ℕ} {l : List ℕ} {i : ℕ} {columns : List ℕ} 
         }
 
   -- ---- all columns of the queue are scanned
-  pub search-start : {w r : Ways} → n ≤ rows → i < n → LongWays w → ((x : ℕ) → x < n → nums (w .step) x ≡ 0) → w .count ≡ 0 → Joined w i i r
+  pub search-start : {w r : Ways} → n ≤ row-limit → i < n → LongWays w → ((x : ℕ) → x < n → nums (w .step) x ≡ 0) → w .count ≡ 0 → Joined w i i r
       → SearchedTo t n l i columns 0 r
   search-start {w} {r} small hi long none zero j =
       let ps = put-is (w .step) (r .step) i (w .count + 1) (j .step) (omega (arith, long .step)) in

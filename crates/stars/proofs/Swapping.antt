@@ -7,7 +7,7 @@ use native.Mathlib.Decide.{ℕ-discrete}
 use native.Mathlib.Omega.{arith}
 use lib.ListN.{length, set, length-set}
 use lib.Seq.{getD-set-same, getD-set-other}
-use Rattle.theory.specs.Limits.{rows}
+use Rattle.theory.specs.Limits.{row-limit}
 use Rattle.theory.specs.Lists.{nums}
 use Rattle.orders.specs.Places.{Marks}
 use Rattle.orders.specs.Held.{Long}
@@ -66,7 +66,7 @@ module _ (l l′ : List ℕ) (x y v w : ℕ) (is : l′ ≡ set (set l x v) y w)
   no-store z a b = rw is (getD-set-other (set l x v) y z w 0 b ∙ getD-set-other l x z v 0 a)
 
 -- the four stores of an exchange
-module _ {n : ℕ} {w r : MarkArrays} {k m : ℕ} (is : Swapped w k m r) (marks : Marks n (nums (w .rows)) (nums (w .columns))) (small : n ≤ rows)
+module _ {n : ℕ} {w r : MarkArrays} {k m : ℕ} (is : Swapped w k m r) (marks : Marks n (nums (w .rows)) (nums (w .columns))) (small : n ≤ row-limit)
     (long-rows : Long (w .rows)) (long-columns : Long (w .columns)) (hk : k < n) (hm : m < n) (apart : k ≢ m) where
   other-columns : nums (w .columns) m ≢ nums (w .columns) k
   other-columns e = apart (sym (one-row marks m k hm hk e))

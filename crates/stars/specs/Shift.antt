@@ -4,7 +4,7 @@ use mathlib.Core.List.{List}
 use Prim.Native.Nat.{ℕ, _≤_, _<_}
 use lib.IntN.{ℤ}
 use lib.ListN.{set}
-use Rattle.theory.specs.Limits.{rows}
+use Rattle.theory.specs.Limits.{row-limit}
 use Rattle.theory.specs.Lists.{nums}
 use Rattle.theory.specs.Table.{entry}
 use Rattle.theory.specs.Canon.{OfMaxima}
@@ -28,10 +28,10 @@ pub record MaximaIn (t : List ℤ) (n : ℕ) (l : List ℕ) (w : MarkArrays) : T
 
 -- rows k and m and their columns are within the arrays
 pub record Swappable (columns : List ℕ) (k m : ℕ) : Type 0 where
-  pub row : k < rows
-  pub other : m < rows
-  pub column : nums columns k < rows
-  pub other-column : nums columns m < rows
+  pub row : k < row-limit
+  pub other : m < row-limit
+  pub column : nums columns k < row-limit
+  pub other-column : nums columns m < row-limit
 
 -- rows k and m have exchanged their columns
 pub record Swapped (w : MarkArrays) (k m : ℕ) (r : MarkArrays) : Type 0 where

@@ -1,5 +1,5 @@
 ghost use Prim.Native.Nat.{ℕ, _<_};
-ghost use Rattle.theory.specs.Limits.{rows};
+ghost use Rattle.theory.specs.Limits.{row-limit};
 ghost use Rattle.theory.specs.Lists.{nums};
 ghost use Rattle.theory.specs.Table.{entry};
 ghost use Rattle.theory.specs.Canon.{Maximum, Stars};
@@ -76,7 +76,7 @@ fn join(
     step: &mut [usize; ROWS],
     queue: &mut [usize; ROWS],
 ) -> usize
-    requires { ⌜ (k < rows) × (count < rows) ⌝ }
+    requires { ⌜ (k < row-limit) × (count < row-limit) ⌝ }
     ensures { λ r. ⌜ Joined
         (ways (now (next .entry)) (now (step .entry)) (now (queue .entry)) count)
         k

@@ -7,7 +7,7 @@ use native.Mathlib.Decide.{decLt, decLe}
 use native.Mathlib.Omega.{arith}
 use lib.IntN.{ℤ, pos, negsuc, negℤ}
 use lib.Signed.{_≤ℤ_}
-use Rattle.theory.specs.Limits.{rows, order, Figures, FoundWithin}
+use Rattle.theory.specs.Limits.{row-limit, order-limit, Figures, FoundWithin}
 use Rattle.theory.specs.Totals.{totalℕ}
 use Rattle.theory.specs.Table.{Order, WithinLimit}
 use Rattle.theory.specs.Canon.{Transversal, Maximum, OfMaxima, LeastFrom, Head, sum, Solution}
@@ -160,21 +160,21 @@ module _ (n : ℕ) (a : ℕ → ℕ → ℤ) where
     sum-low = omega (arith, signed, downs, total-ud n (λ i. a i (σ i)), below-zero (n * L))
 
   -- document 01's limits of what is found: the bounds above, at the limits of what is handed in
-  pub found-within : {l σ : ℕ → ℕ} {h : ℕ → ℤ} {s : ℤ} → n ≤ rows → WithinLimit order n a → Solution n a (λ i. 0) l σ h s → FoundWithin n l h s
+  pub found-within : {l σ : ℕ → ℕ} {h : ℕ → ℤ} {s : ℤ} → n ≤ row-limit → WithinLimit order-limit n a → Solution n a (λ i. 0) l σ h s → FoundWithin n l h s
   found-within {l} {σ} {h} {s} few w sol =
       record {
         addition = low;
         addition-most = λ i hi. omega (arith, low i hi);
         head-least = λ j hj. head-low w hj (sol .heads j hj);
         head-most = λ j hj. omega (arith, signed, head-high {B = 0} w (sol .additions) (λ i hi. omega arith) hj (sol .heads j hj));
-        sum-least = rw (sol .is-sum) (omega (arith, signed, sum-low w tr, below-zero (n * order)));
+        sum-least = rw (sol .is-sum) (omega (arith, signed, sum-low w tr, below-zero (n * order-limit)));
         sum-most = rw (sol .is-sum) (omega (arith, signed, sum-high w tr));
       }
     where
       tr : Transversal n a σ
       tr = sol .stars .of-maxima .transversal
 
-      low : (i : ℕ) → i < n → l i ≤ (n - 1) * (2 * order)
+      low : (i : ℕ) → i < n → l i ≤ (n - 1) * (2 * order-limit)
       low i hi = omega (arith, addition-bound {B = 0} w (sol .additions) (λ i hi. omega arith) i hi)
 
 -- and document 01's own figures for the largest table

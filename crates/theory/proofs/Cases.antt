@@ -12,13 +12,13 @@ use lib.IntN.{ℤ, pos, negℤ}
 use lib.ListN.{length, getD}
 use lib.Signed.{_≤ℤ_, leZ, ltZ, leZ-yes, ltZ-yes, ≤ℤ-refl}
 use Rattle.theory.specs.Totals.{total}
-use Rattle.theory.specs.Limits.{rows, order, handed}
+use Rattle.theory.specs.Limits.{row-limit, order-limit, addition-limit}
 use Rattle.theory.specs.Lists.{nums, ints, flags, columns, StarList}
 use Rattle.theory.specs.Table.{absent, Present, Order, entry}
 use Rattle.theory.specs.Canon.{Transversal, SomeTransversal, NoTransversal, raised, Maximum, OfMaxima, Canon, Heads, Before, sum}
 use Rattle.theory.specs.Canon.{Misplaced, exceeded, Solution}
 use Rattle.theory.specs.Cases.{Handed, nothing, additions, stars, Outcome, answer, refusal6, refusal7, refusal8}
-use Rattle.theory.specs.Cases.{Case, Answerable, NoCanon, Misplaces, Comes, Right, Every, cases}
+use Rattle.theory.specs.Cases.{Case, Answerable, RefusedBy7, RefusedBy8, Comes, Right, Every, cases}
 use Rattle.theory.specs.Paths.{itself}
 use Rattle.theory.proofs.Pigeonhole.{onto}
 use Rattle.theory.proofs.Signed.{signed}
@@ -307,16 +307,16 @@ module _ (n : ℕ) (a : ℕ → ℕ → ℤ) (l s : List ℕ) (h : List ℤ) (z 
 module _ (n : ℕ) (a : ℕ → ℕ → ℤ) where
   answerable : Handed → Bool
   answerable nothing = true
-  answerable (additions m) = eqb (length m) n && (all n (λ i. leb (nums m i) handed) && canon n a (nums m))
+  answerable (additions m) = eqb (length m) n && (all n (λ i. leb (nums m i) addition-limit) && canon n a (nums m))
   answerable (stars s) = every (star-tests n s) && (all n (λ i. present (a i (columns s i))) && not (surpassed n a (columns s)))
 
   answerable-told : (given : Handed) → T (answerable given) → Answerable n a given
   unfolding answerable
   answerable-told nothing t = tt
   answerable-told (additions m) t =
-      let (e, r) = both (eqb (length m) n) (all n (λ i. leb (nums m i) handed) && canon n a (nums m)) t in
-      let (f, c) = both (all n (λ i. leb (nums m i) handed)) (canon n a (nums m)) r in
-      (eqb→eq (length m) n e, λ i hi. leb→le (nums m i) handed (all-told n (λ i. leb (nums m i) handed) f i hi), canon-told n a (nums m) c)
+      let (e, r) = both (eqb (length m) n) (all n (λ i. leb (nums m i) addition-limit) && canon n a (nums m)) t in
+      let (f, c) = both (all n (λ i. leb (nums m i) addition-limit)) (canon n a (nums m)) r in
+      (eqb→eq (length m) n e, λ i hi. leb→le (nums m i) addition-limit (all-told n (λ i. leb (nums m i) addition-limit) f i hi), canon-told n a (nums m) c)
   answerable-told (stars s) t =
       let (o, r) = both (every (star-tests n s)) (all n (λ i. present (a i (columns s i))) && not (surpassed n a (columns s))) t in
       let (p, q) = both (all n (λ i. present (a i (columns s i)))) (not (surpassed n a (columns s))) r in (
@@ -333,7 +333,7 @@ module _ (n : ℕ) (a : ℕ → ℕ → ℤ) where
   refused-canon (additions m) = eqb (length m) n && not (canon n a (nums m))
   refused-canon (stars s) = false
 
-  refused-canon-told : (given : Handed) → T (refused-canon given) → NoCanon n a given
+  refused-canon-told : (given : Handed) → T (refused-canon given) → RefusedBy7 n a given
   unfolding refused-canon
   refused-canon-told nothing t = t
   refused-canon-told (additions m) t =
@@ -346,7 +346,7 @@ module _ (n : ℕ) (a : ℕ → ℕ → ℤ) where
   refused-stars (additions m) = false
   refused-stars (stars s) = every (star-tests n s) && surpassed n a (columns s)
 
-  refused-stars-told : (given : Handed) → T (refused-stars given) → Misplaces n a given
+  refused-stars-told : (given : Handed) → T (refused-stars given) → RefusedBy8 n a given
   unfolding refused-stars
   refused-stars-told nothing t = t
   refused-stars-told (additions m) t = t
@@ -376,7 +376,7 @@ module _ (n : ℕ) (a : ℕ → ℕ → ℤ) where
 
 -- ---- the test of a case
 order-within : ℤ → Bool
-order-within v = leZ (negℤ (pos order)) v && leZ v (pos order)
+order-within v = leZ (negℤ (pos order-limit)) v && leZ v (pos order-limit)
 
 within : ℤ → Bool
 within v = implies (present v) (order-within v)
@@ -384,7 +384,7 @@ within v = implies (present v) (order-within v)
 case-tests : Case → List Bool
 case-tests c =
     leb 1 (c .size) ∷
-    leb (c .size) rows ∷
+    leb (c .size) row-limit ∷
     eqb (length (c .table)) (c .size * c .size) ∷
     all (length (c .table)) (λ k. within (getD (c .table) k (pos 0))) ∷
     comes (c .size) (entry (c .table) (c .size)) (c .handed) (c .outcome) ∷ []
@@ -398,7 +398,7 @@ unfolding test case-tests within order-within
 right c t =
     record {
       some = leb→le 1 (c .size) (every-told (case-tests c) t 0);
-      few = leb→le (c .size) rows (every-told (case-tests c) t 1);
+      few = leb→le (c .size) row-limit (every-told (case-tests c) t 1);
       square = eqb→eq (length (c .table)) (c .size * c .size) (every-told (case-tests c) t 2);
       entries = λ k hk.
           orders (getD (c .table) k (pos 0))
@@ -406,10 +406,10 @@ right c t =
       comes = comes-told (c .size) (entry (c .table) (c .size)) (c .handed) (c .outcome) (every-told (case-tests c) t 4);
     }
   where
-    orders : (v : ℤ) → T (within v) → Present v → Order order v
+    orders : (v : ℤ) → T (within v) → Present v → Order order-limit v
     orders v u p =
         let o = implies-told (present v) (order-within v) u (present-tells v p) in
-        let (lo, hi) = both (leZ (negℤ (pos order)) v) (leZ v (pos order)) o in
+        let (lo, hi) = both (leZ (negℤ (pos order-limit)) v) (leZ v (pos order-limit)) o in
         record { low = leZ-yes lo; high = leZ-yes hi }
 
 tests : List Case → Bool

@@ -5,7 +5,7 @@ use mathlib.Core.List.{List, [], _∷_, map}
 use Prim.Native.Nat.{ℕ, _*_, _≤_, _<_}
 use lib.IntN.{ℤ, pos, negℤ}
 use lib.ListN.{length}
-use Rattle.theory.specs.Limits.{rows, order, handed}
+use Rattle.theory.specs.Limits.{row-limit, order-limit, addition-limit}
 use Rattle.theory.specs.Lists.{nums, ints, columns, StarList}
 use Rattle.theory.specs.Table.{absent, entry, Entries}
 use Rattle.theory.specs.Canon.{SomeTransversal, NoTransversal, Canon, Greatest, Misplaced, Solution}
@@ -32,34 +32,34 @@ pub record Case : Type 0 where
 -- what is handed in leads to the answer: "Any canon within the stated limit, or any transversal of greatest sum"
 abbrev pub Answerable : (n : ℕ) → (ℕ → ℕ → ℤ) → Handed → Type 0
 Answerable n a nothing = Unit
-Answerable n a (additions m) = (length m ≡ n) × ((i : ℕ) → i < n → nums m i ≤ handed) × Canon n a (nums m)
+Answerable n a (additions m) = (length m ≡ n) × ((i : ℕ) → i < n → nums m i ≤ addition-limit) × Canon n a (nums m)
 Answerable n a (stars s) = StarList n s × Greatest n a (columns s)
 
--- the handed start is "no canon", or is misplaced
-abbrev pub NoCanon : (n : ℕ) → (ℕ → ℕ → ℤ) → Handed → Type 0
-NoCanon n a nothing = ⊥
-NoCanon n a (additions m) = (length m ≡ n) × (Canon n a (nums m) → ⊥)
-NoCanon n a (stars s) = ⊥
+-- what is handed in is refused by 7, being "no canon", or by 8, being misplaced
+abbrev pub RefusedBy7 : (n : ℕ) → (ℕ → ℕ → ℤ) → Handed → Type 0
+RefusedBy7 n a nothing = ⊥
+RefusedBy7 n a (additions m) = (length m ≡ n) × (Canon n a (nums m) → ⊥)
+RefusedBy7 n a (stars s) = ⊥
 
-abbrev pub Misplaces : (n : ℕ) → (ℕ → ℕ → ℤ) → Handed → Type 0
-Misplaces n a nothing = ⊥
-Misplaces n a (additions m) = ⊥
-Misplaces n a (stars s) = StarList n s × Misplaced n a (columns s)
+abbrev pub RefusedBy8 : (n : ℕ) → (ℕ → ℕ → ℤ) → Handed → Type 0
+RefusedBy8 n a nothing = ⊥
+RefusedBy8 n a (additions m) = ⊥
+RefusedBy8 n a (stars s) = StarList n s × Misplaced n a (columns s)
 
 -- the outcome is right, by the definitions; the lowest refusal that applies
 abbrev pub Comes : (n : ℕ) → (ℕ → ℕ → ℤ) → Handed → Outcome → Type 0
 Comes n a given (answer l s h z) =
     Answerable n a given × StarList n s × (length l ≡ n) × (length h ≡ n) × Solution n a (λ i. 0) (nums l) (columns s) (ints h) z
 Comes n a given refusal6 = NoTransversal n a
-Comes n a given refusal7 = SomeTransversal n a × NoCanon n a given
-Comes n a given refusal8 = SomeTransversal n a × Misplaces n a given
+Comes n a given refusal7 = SomeTransversal n a × RefusedBy7 n a given
+Comes n a given refusal8 = SomeTransversal n a × RefusedBy8 n a given
 
 -- the one statement: the table is well formed, and its outcome is right
 pub record Right (c : Case) : Type 0 where
   pub some : 1 ≤ c .size
-  pub few : c .size ≤ rows
+  pub few : c .size ≤ row-limit
   pub square : length (c .table) ≡ c .size * c .size
-  pub entries : Entries order (c .table)
+  pub entries : Entries order-limit (c .table)
   pub comes : Comes (c .size) (entry (c .table) (c .size)) (c .handed) (c .outcome)
 
 -- every case of a list

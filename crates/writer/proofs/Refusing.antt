@@ -5,7 +5,7 @@ use mathlib.Core.List.{List, []}
 use Prim.Native.Nat.{ℕ, _≤_, _<_}
 use native.Mathlib.Omega.{arith}
 use lib.ListN.{length}
-use Rattle.theory.specs.Limits.{order}
+use Rattle.theory.specs.Limits.{order-limit}
 use Rattle.theory.specs.Table.{Entries}
 use Rattle.orders.specs.Refusals.{Clear, WrongLength, refuses}
 use Rattle.orders.proofs.Refusals.{right-not-wrong}
@@ -32,7 +32,7 @@ module _ (h : Model) (room : List ℕ) where
       pub refuse-entry : WrongEntry (h .table) → WritePromise h room room (refuses 3 [])
       refuse-entry wrong = refused 3 (inr (size, inr (right, inl (wrong, refl)))) refl refl
 
-      module _ (entries : Entries order (h .table)) where
+      module _ (entries : Entries order-limit (h .table)) where
         pub refuse-label : WrongLabel h → WritePromise h room room (refuses 11 [])
         refuse-label wrong = refused 11 (inr (size, inr (right, inr (entries-right entries, inl (wrong, refl))))) refl refl
 

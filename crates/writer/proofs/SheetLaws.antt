@@ -5,7 +5,7 @@ use Prim.Native.Nat.{ℕ, _+_, _<_, _≤_}
 use native.Mathlib.Omega.{arith}
 use lib.IntN.{ℤ}
 use lib.ListN.{length, length-append}
-use Rattle.theory.specs.Limits.{order}
+use Rattle.theory.specs.Limits.{order-limit}
 use Rattle.theory.specs.Table.{Entries}
 use Rattle.orders.specs.Places.{Square}
 use Rattle.orders.specs.Refusals.{gives, refuses}
@@ -66,7 +66,7 @@ module _ (n : ℕ) (t : List ℤ) (r c : List ℕ) where
           entries-are = refl;
         }
 
-    module _ (e : Entries order t) (p : BufferStands n r) (q : BufferStands n c) (o : List ℕ) where
+    module _ (e : Entries order-limit t) (p : BufferStands n r) (q : BufferStands n c) (o : List ℕ) where
       pub write-refused : (k : ℕ) → k ≡ length (sheetText n t r c) → length o < k → WritePromise (model n t r c) o o (refuses 12 [])
       write-refused k f g =
           refuse-room (model n t r c) o s w e (labelled n t r c) (labelling p q) (omega (arith, ap length (sheet-text n t r c)))

@@ -3,7 +3,7 @@ ghost use Prim.Native.Nat.{ℕ, _*_, _<_, _≤_};
 ghost use lib.ListN.{length, getD};
 ghost use Rattle.orders.specs.Tested.{Tells};
 ghost use Rattle.orders.specs.Places.{Square};
-ghost use Rattle.theory.specs.Limits.{rows as limit};
+ghost use Rattle.theory.specs.Limits.{row-limit as limit};
 ghost use Rattle.sheet.specs.Labels.{width};
 ghost use Rattle.sheet.specs.Text.{signed, ended};
 ghost use Rattle.sheet.specs.Sheet.{presentCount, endedLines};

@@ -5,14 +5,14 @@ use native.Mathlib.Omega.{arith}
 use borrow.Author.Count.{below-more}
 use borrow.Author.Needs.{needs}
 use lib.ListN.{length}
-use Rattle.theory.specs.Limits.{handed}
+use Rattle.theory.specs.Limits.{addition-limit}
 use Rattle.theory.specs.Lists.{nums}
 use Rattle.orders.proofs.Entries.{clash}
 use Rattle.handed.proofs.additions_stand.Statement.{statement}
 use Rattle.handed.proofs.additions_stand.Tie as tie
 
 abbrev Inv-loop : tie.InvT-loop
-Inv-loop given i₀ i = (i ≤ length given) × ((k : ℕ) → k < i → nums given k ≤ handed)
+Inv-loop given i₀ i = (i ≤ length given) × ((k : ℕ) → k < i → nums given k ≤ addition-limit)
 
 abbrev μ-loop : tie.MeasureT-loop
 μ-loop given i₀ i = length given - i

@@ -5,7 +5,7 @@ use Prim.Native.Nat.{_-_, _≤_}
 use native.Mathlib.Omega.{arith}
 use borrow.Author.Needs.{needs}
 use borrow.Author.Tests.{not-true, not-false}
-use Rattle.theory.specs.Limits.{rows}
+use Rattle.theory.specs.Limits.{row-limit}
 use Rattle.theory.specs.Lists.{nums, flags}
 use lib.ListN.{length}
 use Rattle.orders.proofs.Sweeps.{Swept, swept-start, swept-set, swept-keep}
@@ -54,7 +54,7 @@ loop-again c =
     let l = c .before .before .before .loop in
     let a = c .before .before .before .before in
     let s = l .inv .1 in
-    let long : length (a .args .additions) ≡ rows = search needs in (
+    let long : length (a .args .additions) ≡ row-limit = search needs in (
       omega arith,
       elim (c .if1 .came) [
         | inl w ↦ rw (w .1) (swept-set _ _ _ s (omega arith) (fallen-open (not-true _ (w .0 .taken))

@@ -5,7 +5,7 @@ use Prim.Native.Nat.{_-_, _≤_, _<_}
 use native.Mathlib.Omega.{arith}
 use borrow.Author.Needs.{needs, sfits-of}
 use lib.ListN.{length}
-use Rattle.theory.specs.Limits.{rows}
+use Rattle.theory.specs.Limits.{row-limit}
 use Rattle.theory.specs.Lists.{nums}
 use Rattle.theory.specs.Table.{entry}
 use Rattle.orders.proofs.Entries.{absent-bits, present-bits}
@@ -66,8 +66,8 @@ loop-again c =
     let a = c .before .before .before .before .before in
     let p = c .before .place in
     let s = l .inv .1 in
-    let long : length (a .args .floors) ≡ rows = search needs in
-    let i<rows : l .i < rows = omega (arith, a .pre .0 .small) in (
+    let long : length (a .args .floors) ≡ row-limit = search needs in
+    let i<row-limit : l .i < row-limit = omega (arith, a .pre .0 .small) in (
       omega arith,
       elim (c .if1 .came) [
         | inl w ↦ rw (w .4)

@@ -7,13 +7,13 @@ use lib.IntN.{pos}
 use lib.ListN.{length, getD}
 use mir.Syntax.{w16}
 use Rattle.theory.specs.Table.{Present, Order}
-use Rattle.theory.specs.Limits.{order}
+use Rattle.theory.specs.Limits.{order-limit}
 use Rattle.orders.proofs.Entries.{tells-yes, tells-no, back, entries-more}
 use Rattle.orders.proofs.entries_stand.Statement.{statement}
 use Rattle.orders.proofs.entries_stand.Tie as tie
 
 abbrev Inv-loop : tie.InvT-loop
-Inv-loop table k₀ k = (k ≤ length table) × ((x : ℕ) → x < k → Present (getD table x (pos 0)) → Order order (getD table x (pos 0)))
+Inv-loop table k₀ k = (k ≤ length table) × ((x : ℕ) → x < k → Present (getD table x (pos 0)) → Order order-limit (getD table x (pos 0)))
 
 abbrev μ-loop : tie.MeasureT-loop
 μ-loop table k₀ k = length table - k
@@ -48,7 +48,7 @@ loop-again c =
     let l = c .before .before .before .before .loop in
     let t = c .before .before .before .before .before .args .table .now in (
       search needs,
-      entries-more order t (l .k) (l .inv .1)
+      entries-more order-limit t (l .k) (l .inv .1)
           ((simp (back w16 (getD t (l .k) (pos 0)) (c .before .before .v .given)) at (c .before .entry-stands .ensures)) .holds
           (not-false _ (c .if1 .left))),
     )

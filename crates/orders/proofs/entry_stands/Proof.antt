@@ -1,13 +1,13 @@
 -- One entry is tested. Assumes nothing.
 use mir.Facts.{toZ-ofZ}
 use borrow.Author.Needs.{needs}
-use Rattle.theory.specs.Limits.{order}
+use Rattle.theory.specs.Limits.{order-limit}
 use Rattle.orders.proofs.Entries.{entry-absent, entry-low, entry-high}
 use Rattle.orders.proofs.entry_stands.Statement.{statement}
 use Rattle.orders.proofs.entry_stands.Tie as tie
 
 returns : tie.Need-returns
-returns c = entry-absent order (c .before .args .v) (c .before .fits .v) (c .if1 .taken)
+returns c = entry-absent order-limit (c .before .args .v) (c .before .fits .v) (c .if1 .taken)
 
 sub-if2 : tie.Need-sub-if2
 sub-if2 c = search needs

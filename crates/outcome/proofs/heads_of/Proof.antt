@@ -8,17 +8,17 @@ use mir.Facts.{toZ-ofZ}
 use Rattle.theory.specs.Lists.{nums}
 use Rattle.theory.specs.Table.{entry}
 use Rattle.theory.specs.Canon.{Head}
-use Rattle.theory.specs.Limits.{rows}
+use Rattle.theory.specs.Limits.{row-limit}
 use Rattle.orders.proofs.Sweeps.{Swept, swept-start, swept-set}
 use Rattle.outcome.proofs.Parts.{head-marked}
 use Rattle.outcome.proofs.heads_of.Statement.{statement}
 use Rattle.outcome.proofs.heads_of.Tie as tie
 
 abbrev Inv-loop : tie.InvT-loop
-Inv-loop table n additions rows heads₀ j₀ heads j = (j ≤ n) × Swept (pos 0) (Head n (entry table n) (nums additions)) heads₀ heads j
+Inv-loop table n additions row-limit heads₀ j₀ heads j = (j ≤ n) × Swept (pos 0) (Head n (entry table n) (nums additions)) heads₀ heads j
 
 abbrev μ-loop : tie.MeasureT-loop
-μ-loop table n additions rows heads₀ j₀ heads j = n - j
+μ-loop table n additions row-limit heads₀ j₀ heads j = n - j
 
 loop-holds : tie.Need-loop-holds Inv-loop μ-loop
 loop-holds c = (omega arith, swept-start _ _ _)
@@ -36,7 +36,7 @@ place-requires c κs =
     (s .pre .0, s .pre .2 .inside _ hj, hj)
 
 -- the marked row is one of the first n
-row-inside : (c : tie.After-place Inv-loop μ-loop) → nums (c .before .before .before .before .args .rows .now) (c .before .before .before .loop .j) < rows
+row-inside : (c : tie.After-place Inv-loop μ-loop) → nums (c .before .before .before .before .args .rows .now) (c .before .before .before .loop .j) < row-limit
 row-inside c =
     let s = c .before .before .before .before in
     omega (arith, s .pre .0 .small, s .pre .2 .inside (c .before .before .before .loop .j) (omega arith))

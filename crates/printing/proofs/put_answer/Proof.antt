@@ -6,7 +6,7 @@ use mathlib.Core.Path.{refl, sym}
 use lib.IntN.{pos}
 use lib.ListN.{replicate}
 use lib.Seq.{length-take-le}
-use Rattle.theory.specs.Limits.{rows}
+use Rattle.theory.specs.Limits.{row-limit}
 use Rattle.orders.specs.Refusals.{refusal}
 use Rattle.sheet.specs.Labels.{width}
 use Rattle.reader.specs.Promise.{Lent, lent, Wanted}
@@ -18,7 +18,7 @@ use Rattle.printing.proofs.put_answer.Tie as tie
 
 -- what is lent to the reader, and has the wanted lengths
 abbrev zeros : Lent
-zeros = lent (replicate (rows * rows) (pos 0)) (replicate (width * rows) 0) (replicate (width * rows) 0)
+zeros = lent (replicate (row-limit * row-limit) (pos 0)) (replicate (width * row-limit) 0) (replicate (width * row-limit) 0)
 
 wanted : Wanted zeros
 wanted = record { table-length = refl; rows-length = refl; cols-length = refl }

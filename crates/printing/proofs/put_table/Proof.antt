@@ -10,7 +10,7 @@ use lib.Seq.{length-take-le}
 use mir.Facts.{toZ-ofZ}
 use mir.Syntax.{w32}
 use mir.Val.{SFits, ofZ, toZ}
-use Rattle.theory.specs.Limits.{rows}
+use Rattle.theory.specs.Limits.{row-limit}
 use Rattle.orders.specs.Refusals.{gives, refusal}
 use Rattle.handed.proofs.Basics.{sized}
 use Rattle.printing.specs.Printed.{figures}
@@ -22,12 +22,12 @@ use Rattle.printing.proofs.put_table.Tie as tie
 
 -- what the arrays hold before the call, and behind their fronts after it
 abbrev zeros : List ℕ
-zeros = replicate rows 0
+zeros = replicate row-limit 0
 
 abbrev nulls : List ℤ
-nulls = replicate rows (pos 0)
+nulls = replicate row-limit (pos 0)
 
-few : (s : tie.Start) → s .args .n ≤ rows
+few : (s : tie.Start) → s .args .n ≤ row-limit
 few s = sized (s .pre .0 .in-size) .1
 
 -- the front of an array has the table's size

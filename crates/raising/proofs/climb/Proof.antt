@@ -2,7 +2,7 @@
 use mathlib.Core.Logic.{inl, inr}
 use Prim.Native.Nat.{_-_, _≤_}
 use native.Mathlib.Omega.{arith}
-use Rattle.theory.specs.Limits.{order, handed}
+use Rattle.theory.specs.Limits.{order-limit, addition-limit}
 use Rattle.theory.specs.Lists.{nums}
 use Rattle.theory.specs.Table.{entry}
 use Rattle.raising.proofs.Ends.{BeforeRound, starts, one-round, goes-on, before-ample, climbed}
@@ -11,7 +11,7 @@ use Rattle.raising.proofs.climb.Tie as tie
 
 abbrev Inv-loop : tie.InvT-loop
 Inv-loop n table column-of additions₀ rounds₀ additions rounds =
-    BeforeRound order handed n (entry table n) (nums column-of) (nums additions₀) rounds (nums additions) × (rounds ≤ n)
+    BeforeRound order-limit addition-limit n (entry table n) (nums column-of) (nums additions₀) rounds (nums additions) × (rounds ≤ n)
 
 abbrev μ-loop : tie.MeasureT-loop
 μ-loop n table column-of additions₀ rounds₀ additions rounds = n - rounds
@@ -34,7 +34,7 @@ returns : tie.Need-returns Inv-loop μ-loop
 returns c =
     let s = c .before .before .before in
     let l = c .before .before .loop in
-    let w = one-round order handed _ _ _ _ (l .inv .0) (c .before .round .ensures) (s .pre .1) in
+    let w = one-round order-limit addition-limit _ _ _ _ (l .inv .0) (c .before .round .ensures) (s .pre .1) in
     climbed (s .pre .0 .square .small) (omega arith) w (inl (c .if1 .taken))
 
 add-rounds : tie.Need-add-rounds Inv-loop μ-loop
@@ -44,7 +44,7 @@ returns-2 : tie.Need-returns-2 Inv-loop μ-loop
 returns-2 c =
     let s = c .before .before .before .before in
     let l = c .before .before .before .loop in
-    let w = one-round order handed _ _ _ _ (l .inv .0) (c .before .before .round .ensures) (s .pre .1) in
+    let w = one-round order-limit addition-limit _ _ _ _ (l .inv .0) (c .before .before .round .ensures) (s .pre .1) in
     climbed (s .pre .0 .square .small) (omega arith) w (inr (c .if2 .taken))
 
 loop-less : tie.Need-loop-less Inv-loop μ-loop
@@ -54,8 +54,8 @@ loop-again : tie.Need-loop-again Inv-loop μ-loop
 loop-again c =
     let s = c .before .before .before .before .before in
     let l = c .before .before .before .before .loop in
-    let w = one-round order handed _ _ _ _ (l .inv .0) (c .before .before .before .round .ensures) (s .pre .1) in
-    (goes-on order handed _ _ _ _ w (c .before .before .if1 .left), omega arith)
+    let w = one-round order-limit addition-limit _ _ _ _ (l .inv .0) (c .before .before .before .round .ensures) (s .pre .1) in
+    (goes-on order-limit addition-limit _ _ _ _ w (c .before .before .if1 .left), omega arith)
 
 pub climb-spec : {M : Type 1} → statement M
 climb-spec =

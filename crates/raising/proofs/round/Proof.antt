@@ -4,7 +4,7 @@ use mathlib.Core.Logic.{inl, inr}
 use Prim.Native.Nat.{_-_, _≤_, _<_}
 use native.Mathlib.Omega.{arith}
 use borrow.Author.Needs.{needs}
-use Rattle.theory.specs.Limits.{order}
+use Rattle.theory.specs.Limits.{order-limit}
 use Rattle.theory.specs.Lists.{nums}
 use Rattle.theory.specs.Table.{entry}
 use Rattle.orders.proofs.Places.{within}
@@ -17,7 +17,7 @@ use Rattle.raising.proofs.round.Tie as tie
 
 abbrev Inv-loop : tie.InvT-loop
 Inv-loop n table column-of next₀ ended₀ i₀ next ended i =
-    (i ≤ n) × Long next × Round order n (entry table n) (nums column-of) (nums next₀) i ended (nums next)
+    (i ≤ n) × Long next × Round order-limit n (entry table n) (nums column-of) (nums next₀) i ended (nums next)
 
 abbrev μ-loop : tie.MeasureT-loop
 μ-loop n table column-of next₀ ended₀ i₀ next ended i = n - i
@@ -68,20 +68,20 @@ loop-again c =
     let s = c .before .before .before .before .before .before in
     let l = c .before .before .before .before .before .loop in
     let hi : l .i < s .args .n = search needs in
-    let w = within order (s .args .n) (s .args .table .now) (s .pre .square .square) (s .pre .entries) in
+    let w = within order-limit (s .args .n) (s .args .table .now) (s .pre .square .square) (s .pre .entries) in
     let p = c .before .wanted in
     elim (c .if1 .came) [
       | inl v ↦ (
         search needs,
         rw (v .1) (search needs),
         rw (v .1, v .2)
-            (round-raised order _ _ _ _ _ (s .pre .transversal) w hi (p .result) (p .ensures) (l .inv .2)
+            (round-raised order-limit _ _ _ _ _ (s .pre .transversal) w hi (p .result) (p .ensures) (l .inv .2)
             (put-nums (l .next) _ _ (omega (arith, l .inv .1, s .pre .square .small))) (v .0 .taken)),
       )
       | inr v ↦ (
         search needs,
         rw (v .1) (l .inv .1),
-        rw (v .1, v .2) (round-kept order _ _ _ _ _ (s .pre .transversal) w hi (p .result) (p .ensures) (l .inv .2) (v .0 .left)),
+        rw (v .1, v .2) (round-kept order-limit _ _ _ _ _ (s .pre .transversal) w hi (p .result) (p .ensures) (l .inv .2) (v .0 .left)),
       )
     ]
 

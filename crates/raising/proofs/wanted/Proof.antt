@@ -4,7 +4,7 @@ use borrow.Author.Needs.{needs, sfits-of}
 use mir.Syntax.{w16, w32}
 use mir.Val.{SFits}
 use mir.Facts.{toZ-ofZ}
-use Rattle.theory.specs.Limits.{order}
+use Rattle.theory.specs.Limits.{order-limit}
 use Rattle.orders.proofs.Places.{within, top-head}
 use Rattle.raising.proofs.Heights.{head-above, head-under}
 use Rattle.raising.proofs.wanted.Statement.{statement}
@@ -22,10 +22,10 @@ excess-requires c κs =
     let s = c .before .before .before in
     let f : SFits w32 (c .before .head .result .head) = search needs in
     let h = top-head (s .pre .row) (s .pre .present) (c .before .head .ensures) in
-    let w = within order (s .args .n) (s .args .table .now) (s .pre .square .square) (s .pre .entries) in
+    let w = within order-limit (s .args .n) (s .args .table .now) (s .pre .square .square) (s .pre .entries) in
     rw (toZ-ofZ f, toZ-ofZ {w = w16} {z = p .result} (sfits-of (p .ok)), p .ensures) (
       head-above _ _ _ _ h (s .pre .row) (s .pre .present),
-      head-under _ _ _ _ {limit = order} (omega arith) (s .pre .inside) w (s .pre .under-ceiling) h,
+      head-under _ _ _ _ {limit = order-limit} (omega arith) (s .pre .inside) w (s .pre .under-ceiling) h,
     )
 
 returns : tie.Need-returns

@@ -6,7 +6,7 @@ use Prim.Native.Nat.{_+_, _*_, _≤_, _-_}
 use mathlib.Core.Path.{_≡_, refl, ap, _∙_}
 use mathlib.Core.List.{_++_}
 use lib.ListN.{length, getD, set, take, drop, length-set}
-use Rattle.theory.specs.Limits.{rows}
+use Rattle.theory.specs.Limits.{row-limit}
 use Rattle.sheet.specs.Labels.{width}
 use Rattle.reader.proofs.copy_bytes.Statement.{statement}
 use Rattle.reader.proofs.copy_bytes.Tie as tie
@@ -15,8 +15,8 @@ abbrev Inv-loop : tie.InvT-loop
 Inv-loop from count to₀ i₀ to i =
     (to ≡ take i from ++ drop i to₀)
     × (i ≤ count)
-    × (count ≤ width * rows)
-    × (length from ≡ width * rows)
+    × (count ≤ width * row-limit)
+    × (length from ≡ width * row-limit)
     × (count ≤ length to₀)
     × (length to ≡ length to₀)
 

@@ -8,7 +8,7 @@ use lib.ListN.{length, getD, set, take, drop, length-set}
 use mir.Syntax.{w16}
 use lib.IntN.{pos}
 use Rattle.orders.proofs.Entries.{back}
-use Rattle.theory.specs.Limits.{rows}
+use Rattle.theory.specs.Limits.{row-limit}
 use Rattle.reader.proofs.copy_entries.Statement.{statement}
 use Rattle.reader.proofs.copy_entries.Tie as tie
 
@@ -16,8 +16,8 @@ abbrev Inv-loop : tie.InvT-loop
 Inv-loop from count to₀ i₀ to i =
     (to ≡ take i from ++ drop i to₀)
     × (i ≤ count)
-    × (count ≤ rows * rows)
-    × (length from ≡ rows * rows)
+    × (count ≤ row-limit * row-limit)
+    × (length from ≡ row-limit * row-limit)
     × (count ≤ length to₀)
     × (length to ≡ length to₀)
 

@@ -4,7 +4,7 @@ use native.Mathlib.Omega.{arith}
 use mathlib.Core.Path.{_≡_, sym, ap, _∙_}
 use Prim.Native.Nat.{ℕ, _+_, _*_, _<_}
 use lib.IntN.{ℤ}
-use Rattle.theory.specs.Limits.{rows}
+use Rattle.theory.specs.Limits.{row-limit}
 use Rattle.sheet.proofs.Lines.{order-once}
 use Rattle.fields.proofs.SignedLaws.{order-bits}
 use Rattle.reader.specs.Parts.{OrderIs}
@@ -28,7 +28,7 @@ value c = c .before .row .given .0 .1 .1 .0
 said : (c : tie.After-known-told) → OrderIs (size c) (c .before .before .before .before .before .args .line .now) (row c) (col c) (value c)
 said c = c .before .before .before .order-line .ensures .found _ _ _ (c .before .row .given .1)
 
-inside : (c : tie.After-known-told) → row c * size c + col c < rows * rows
+inside : (c : tie.After-known-told) → row c * size c + col c < row-limit * row-limit
 inside c = place-small _ _ _ (c .before .before .before .before .before .pre) (said c .row) (said c .col)
 
 order-line-requires : tie.Need-order-line-requires

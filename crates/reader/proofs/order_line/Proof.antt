@@ -6,7 +6,7 @@ use mathlib.Core.List.{List}
 use Prim.Native.Nat.{ℕ, _+_, _≤_}
 use lib.ListN.{length, drop, length-drop}
 use lib.Seq.{drop-drop}
-use Rattle.theory.specs.Limits.{order}
+use Rattle.theory.specs.Limits.{order-limit}
 use Rattle.sheet.proofs.Bytes.{rest}
 use Rattle.fields.specs.Fields.{FieldIs, SignedIs, FrontOf, SignedOf}
 use Rattle.fields.proofs.SignedLaws.{order-bits}
@@ -104,7 +104,7 @@ abbrev behind : tie.After-known-told2 → List ℕ
 behind c = let d = c .before .before .before .before .before in drop (second c) (drop (first d) (line d))
 
 told-last : (c : tie.After-signed-number)
-    → SignedOf (SignedIs (behind (c .before .before)) order) (c .signed-number .result)
+    → SignedOf (SignedIs (behind (c .before .before)) order-limit) (c .signed-number .result)
 told-last c =
     let d = c .before .before .before .before .before .before .before in
     let b = second (c .before .before) in
@@ -125,7 +125,7 @@ sub-t19 c = col (c .before .before .before .before .before) .some
 returns-4 : tie.Need-returns-4
 returns-4 c =
     let v = c .before .v .given .0 .0 in
-    let h : SignedIs _ order v = told-last (c .before .before .before) .found _ (c .before .v .given .1) in
+    let h : SignedIs _ order-limit v = told-last (c .before .before .before) .found _ (c .before .v .given .1) in
     let d = c .before .before .before .before .before in
     rw (order-bits (omega arith) v (h .small)) (place-found _ _ v (order-good _ _ _ _ (row (d .before .before .before .before .before)) _ _ (col d) v h))
 

@@ -6,7 +6,7 @@ use mathlib.Core.Path.{_≡_, sym, ap, _∙_}
 use native.Mathlib.Numerals.{add-one}
 use lib.ListN.{length, getD, set, length-set}
 use lib.Seq.{paste, paste-zero, paste-suc}
-use Rattle.theory.specs.Limits.{rows}
+use Rattle.theory.specs.Limits.{row-limit}
 use Rattle.sheet.specs.Labels.{width}
 use Rattle.reader.proofs.put_label.Statement.{statement}
 use Rattle.reader.proofs.put_label.Tie as tie
@@ -15,9 +15,9 @@ abbrev Inv-loop : tie.InvT-loop
 Inv-loop k line labels₀ at i₀ labels i =
     (labels ≡ paste labels₀ at line i)
     × (i ≤ length line)
-    × (at + length line ≤ width * rows)
-    × (length labels₀ ≡ width * rows)
-    × (length labels ≡ width * rows)
+    × (at + length line ≤ width * row-limit)
+    × (length labels₀ ≡ width * row-limit)
+    × (length labels ≡ width * row-limit)
 
 abbrev μ-loop : tie.MeasureT-loop
 μ-loop k line labels₀ at i₀ labels i = length line - i

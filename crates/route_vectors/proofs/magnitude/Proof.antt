@@ -12,13 +12,20 @@ returns : tie.Need-returns
 returns c = search needs
 
 sub-result : tie.Need-sub-result
-sub-result c = rw (toZ-ofZ (c .before .before .fits .value)) (omega (arith, signed, minus (pos 0) (c .before .before .args .value), simp (toZ-ofZ (c .before .before .fits .value)) at (c .before .if1 .left), simp (toZ-ofZ (c .before .before .fits .value)) at (c .if2 .taken)))
+sub-result c =
+    let s = c .before .before in
+    let is = toZ-ofZ (s .fits .value) in
+    rw is (omega (arith, signed, minus (pos 0) (s .args .value), simp is at (c .before .if1 .left), simp is at (c .if2 .taken)))
 
 cast-result : tie.Need-cast-result
 cast-result c =
-    rw (toZ-ofZ (c .before .before .fits .value), toZ-ofZ (simp (toZ-ofZ (c .before .before .fits .value)) at (sub-result c))) (
-      ud-nonNeg (pos 0 -ℤ (c .before .before .args .value)) (omega (arith, signed, minus (pos 0) (c .before .before .args .value), simp (toZ-ofZ (c .before .before .fits .value)) at (c .if2 .taken))),
-      omega (arith, natAbs-is (pos 0 -ℤ (c .before .before .args .value)), sfits-ud w32 (pos 0 -ℤ (c .before .before .args .value)) (simp (toZ-ofZ (c .before .before .fits .value)) at (sub-result c))),
+    let s = c .before .before in
+    let is = toZ-ofZ (s .fits .value) in
+    let opposite = pos 0 -ℤ (s .args .value) in
+    let fits = simp is at (sub-result c) in
+    rw (is, toZ-ofZ fits) (
+      ud-nonNeg opposite (omega (arith, signed, minus (pos 0) (s .args .value), simp is at (c .if2 .taken))),
+      omega (arith, natAbs-is opposite, sfits-ud w32 opposite fits),
     )
 
 returns-2 : tie.Need-returns-2

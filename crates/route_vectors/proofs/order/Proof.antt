@@ -20,7 +20,9 @@ returns-3 : tie.Need-returns-3
 returns-3 c = search needs
 
 sub-result : tie.Need-sub-result
-sub-result c = rw (toZ-small w16 (c .before .before .before .args .size) (omega arith)) (omega (arith, signed, minus (pos 0) (pos (c .before .before .before .args .size))))
+sub-result c =
+    let size = c .before .before .before .args .size in
+    rw (toZ-small w16 size (omega arith)) (omega (arith, signed, minus (pos 0) (pos size)))
 
 returns-4 : tie.Need-returns-4
 returns-4 c = search needs

@@ -41,19 +41,25 @@ array-borrow-prefix-table : tie.Need-array-borrow-prefix-table
 array-borrow-prefix-table c = search needs
 
 slice-aggregate-read-sheet : tie.Need-slice-aggregate-read-sheet
-slice-aggregate-read-sheet c = sym (length-take-le (c .before .before .before .before .before .before .before .before .pair .result % 1101) (c .before .before .before .before .table-room .result) (omega arith))
+slice-aggregate-read-sheet c =
+    sym (length-take-le (c .before .before .before .before .before .before .before .before .pair .result % 1101)
+    (c .before .before .before .before .table-room .result) (omega arith))
 
 array-borrow-prefix-rows : tie.Need-array-borrow-prefix-rows
 array-borrow-prefix-rows c = search needs
 
 slice-aggregate-read-sheet-2 : tie.Need-slice-aggregate-read-sheet-2
-slice-aggregate-read-sheet-2 c = sym (length-take-le (c .before .before .before .before .before .before .before .before .pair2 .result % 301) (c .before .before .before .before .label-room .result) (omega arith))
+slice-aggregate-read-sheet-2 c =
+    sym (length-take-le (c .before .before .before .before .before .before .before .before .pair2 .result % 301)
+    (c .before .before .before .before .label-room .result) (omega arith))
 
 array-borrow-prefix-cols : tie.Need-array-borrow-prefix-cols
 array-borrow-prefix-cols c = search needs
 
 slice-aggregate-read-sheet-3 : tie.Need-slice-aggregate-read-sheet-3
-slice-aggregate-read-sheet-3 c = sym (length-take-le (c .before .before .before .before .before .before .before .before .pair3 .result % 301) (c .before .before .before .before .label-room2 .result) (omega arith))
+slice-aggregate-read-sheet-3 c =
+    sym (length-take-le (c .before .before .before .before .before .before .before .before .pair3 .result % 301)
+    (c .before .before .before .before .label-room2 .result) (omega arith))
 
 read-sheet-requires : tie.Need-read-sheet-requires
 read-sheet-requires c κs = search needs

@@ -47,7 +47,9 @@ array-share-prefix-table : tie.Need-array-share-prefix-table
 array-share-prefix-table c = search needs
 
 slice-aggregate-write-sheet : tie.Need-slice-aggregate-write-sheet
-slice-aggregate-write-sheet c = sym (length-take-le (c .before .before .before .before .before .before .before .pair2 .result % 1101) (c .before .before .entries .result) (omega arith))
+slice-aggregate-write-sheet c =
+    sym (length-take-le (c .before .before .before .before .before .before .before .pair2 .result % 1101)
+    (c .before .before .entries .result) (omega arith))
 
 sub-write-sheet : tie.Need-sub-write-sheet
 sub-write-sheet c = search needs
@@ -71,7 +73,9 @@ array-borrow-prefix-out : tie.Need-array-borrow-prefix-out
 array-borrow-prefix-out c = search needs
 
 slice-aggregate-write-sheet-2 : tie.Need-slice-aggregate-write-sheet-2
-slice-aggregate-write-sheet-2 c = sym (length-take-le (c .before .before .before .before .before .before .before .pair5 .result % 12401) (c .before .before .before .before .sheet-room .result) (omega arith))
+slice-aggregate-write-sheet-2 c =
+    sym (length-take-le (c .before .before .before .before .before .before .before .pair5 .result % 12401)
+    (c .before .before .before .before .sheet-room .result) (omega arith))
 
 write-sheet-requires : tie.Need-write-sheet-requires
 write-sheet-requires c κs = search needs

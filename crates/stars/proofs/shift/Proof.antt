@@ -1,7 +1,7 @@
 -- Row i takes the first column that the rows before it leave to it, and the marks are shifted along the way. Assumes nothing.
 use native.Mathlib.Omega.{arith}
 use Rattle.theory.specs.Lists.{nums}
-use Rattle.theory.specs.Limits.{rows}
+use Rattle.theory.specs.Limits.{row-limit}
 use Rattle.stars.specs.Shift.{mark-arrays}
 use Rattle.stars.proofs.Moving.{ShiftingIn, unsearched, chosen-below, move-start, move-less, move-next, move-end}
 use Rattle.stars.proofs.shift.Statement.{statement}
@@ -9,11 +9,11 @@ use Prim.Native.Nat.{_<_}
 use Rattle.stars.proofs.shift.Tie as tie
 
 abbrev Inv-loop : tie.InvT-loop
-Inv-loop table n additions heads i rows₀ columns₀ next step j k₀ m₀ rows columns k m =
-    ShiftingIn table n additions i j (mark-arrays rows₀ columns₀) step (mark-arrays rows columns) k m
+Inv-loop table n additions heads i rows₀ columns₀ next step j k₀ m₀ row-limit columns k m =
+    ShiftingIn table n additions i j (mark-arrays rows₀ columns₀) step (mark-arrays row-limit columns) k m
 
 abbrev μ-loop : tie.MeasureT-loop
-μ-loop table n additions heads i rows₀ columns₀ next step j k₀ m₀ rows columns k m = nums step m
+μ-loop table n additions heads i rows₀ columns₀ next step j k₀ m₀ row-limit columns k m = nums step m
 
 find-ways-requires : tie.Need-find-ways-requires Inv-loop μ-loop
 find-ways-requires c κs =
@@ -33,7 +33,7 @@ least-column-requires c κs =
     (p .0, p .2, p .1 .marks .column (s .args .i) (p .2), p .1 .marks .row)
 
 -- the column chosen is one of the first n
-chosen : (c : tie.After-least-column Inv-loop μ-loop) → c .least-column .result < rows
+chosen : (c : tie.After-least-column Inv-loop μ-loop) → c .least-column .result < row-limit
 chosen c =
     let p = c .before .before .before .before .before .before .before .before .pre in
     let ways = c .before .before .before .before .find-ways .ensures in

@@ -4,7 +4,7 @@ use native.Mathlib.Omega.{arith}
 use Prim.Native.Nat.{_+_, _-_, _*_, _≤_}
 use mathlib.Core.Path.{_≡_, refl, ap, _∙_}
 use lib.ListN.{length, length-append}
-use Rattle.theory.specs.Limits.{rows}
+use Rattle.theory.specs.Limits.{row-limit}
 use Rattle.sheet.specs.Labels.{width, slot}
 use Rattle.sheet.specs.Sheet.{endedLines}
 use Rattle.sheet.specs.Text.{ended}
@@ -17,7 +17,7 @@ use Rattle.writer.proofs.labels_length.Tie as tie
 abbrev Inv-loop : tie.InvT-loop
 Inv-loop n labels sum₀ k₀ sum k =
     (k ≤ n)
-    × (n ≤ rows)
+    × (n ≤ row-limit)
     × (width * n ≤ length labels)
     × (sum ≡ length (endedLines (labelsOf k labels)))
     × (sum ≤ label-most * k)

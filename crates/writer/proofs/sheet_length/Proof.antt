@@ -4,7 +4,7 @@ use native.Mathlib.Omega.{arith}
 use Prim.Native.Nat.{_+_, _*_, _≤_}
 use mathlib.Core.Path.{ap}
 use lib.ListN.{length}
-use Rattle.theory.specs.Limits.{rows}
+use Rattle.theory.specs.Limits.{row-limit}
 use Rattle.lettering.proofs.TextLaws.{number-short}
 use Rattle.orders.proofs.Places.{square-small}
 use Rattle.sheet.specs.Text.{text}
@@ -17,16 +17,16 @@ use Rattle.writer.proofs.sheet_length.Tie as tie
 head : (c : tie.After-digits) → c .digits .result ≤ number-most
 head c = let s = c .before .before .before in omega (arith, c .digits .ensures, number-short (s .args .n) (s .fits .n))
 
-row-labels : (c : tie.After-labels-length) → c .labels-length .result ≤ label-most * rows
+row-labels : (c : tie.After-labels-length) → c .labels-length .result ≤ label-most * row-limit
 row-labels c = omega (arith, c .labels-length .ensures .1, c .before .before .before .before .pre .0 .small)
 
-col-labels : (c : tie.After-labels-length2) → c .labels-length2 .result ≤ label-most * rows
+col-labels : (c : tie.After-labels-length2) → c .labels-length2 .result ≤ label-most * row-limit
 col-labels c = omega (arith, c .labels-length2 .ensures .1, c .before .before .before .before .before .pre .0 .small)
 
 count : (c : tie.After-digits2) → c .digits2 .result ≤ number-most
 count c = omega (arith, c .digits2 .ensures, number-short (c .before .present-count .result) (record { fits = c .before .present-count .ok }))
 
-order-lines : (c : tie.After-orders-length) → c .orders-length .result ≤ line-most * (rows * rows)
+order-lines : (c : tie.After-orders-length) → c .orders-length .result ≤ line-most * (row-limit * row-limit)
 order-lines c =
     let s = c .before .before .before .before .before .before .before .before in
     omega (arith, c .orders-length .ensures .1, square-small (s .args .n) (s .pre .0 .small), s .pre .0 .square)

@@ -3,7 +3,7 @@ use borrow.Author.Needs.{needs}
 use native.Mathlib.Omega.{arith}
 use mathlib.Core.Logic.{inl, inr}
 use borrow.Author.Tests.{not-true, not-false}
-use Rattle.theory.specs.Limits.{order}
+use Rattle.theory.specs.Limits.{order-limit}
 use Rattle.theory.specs.Table.{Entries}
 use Rattle.handed.specs.Conditions.{OutOfSize}
 use Rattle.handed.proofs.Basics.{in-size, wrong-entry}
@@ -27,7 +27,7 @@ size c = in-size (c .before .before .before .before .if1 .left) (c .before .befo
 lengths : (c : tie.Else5) → Wanted (given c)
 lengths c = record { table-length = c .before .before .if3 .left; rows-length = c .before .if4 .left; cols-length = c .if5 .left }
 
-entries : (c : tie.Else6) → Entries order (given (c .before .before) .table)
+entries : (c : tie.Else6) → Entries order-limit (given (c .before .before) .table)
 entries c = c .before .entries-stand .ensures .holds (not-false _ (c .if6 .left))
 
 row-labels : (c : tie.Else7) → BufferStands (given (c .before .before .before .before) .n) (given (c .before .before .before .before) .row-labels)

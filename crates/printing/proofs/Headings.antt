@@ -7,7 +7,7 @@ use lib.ListN.{length, take, drop, length-append, length-map}
 use Rattle.sheet.specs.Text.{text, ended}
 use Rattle.sheet.specs.Sheet.{endedLines, countedLines}
 use Rattle.lettering.specs.Putting.{Puts}
-use Rattle.lettering.proofs.PutLaws.{puts-same, puts-inside, puts-tail, left-room}
+use Rattle.lettering.proofs.PutLaws.{puts-same, puts-length, puts-tail, left-room}
 
 -- the heading line of a section of values
 abbrev pub heading : {A : Type 0} → List A → List ℕ → List ℕ
@@ -34,7 +34,7 @@ module _ {A : Type 0} {f : A → List ℕ} {l : List A} {head o o′ : List ℕ}
   both-fit = omega (arith, section-length f l head, j .fits)
 
   pub headed-at : a ≤ length o′
-  headed-at = puts-inside (heading l head) o o′ a (j .puts) (omega (arith, both-fit))
+  headed-at = omega (arith, j .puts .is-length, puts-length (heading l head) o o′ a (j .puts) (omega (arith, both-fit)), both-fit)
 
   pub lines-room : length (endedLines (map f l)) ≤ length (take (length o′ - a) (drop a o′))
   lines-room = left-room (heading l head) o o′ a (j .puts) (endedLines (map f l)) (length o′ - a) refl both-fit

@@ -3,7 +3,7 @@
 use mathlib.Core.Path.{_≡_, refl, sym, _∙_, ap}
 use mathlib.Core.Bool.{Bool, true, false}
 use mathlib.Core.List.{List, [], _∷_}
-use Prim.Native.Nat.{ℕ, _*_, _≤_, _<_}
+use Prim.Native.Nat.{ℕ, _*_, _≤_}
 use native.Mathlib.Omega.{arith}
 use lib.IntN.{ℤ}
 use lib.ListN.{length}
@@ -13,7 +13,7 @@ use Rattle.theory.specs.Lists.{nums, ints, columns, StarList}
 use Rattle.theory.specs.Table.{entry, Entries}
 use Rattle.theory.specs.Canon.{SomeTransversal, Simplest, Greatest, Misplaced, on-absent, exceeded, Solution, sum}
 use Rattle.theory.specs.Cases.{Handed, nothing, additions, stars, Answerable}
-use Rattle.theory.proofs.Signed.{signed, below-zero}
+use Rattle.theory.proofs.Signed.{signed}
 use Rattle.theory.proofs.Unique.{least-once}
 use Rattle.theory.proofs.Bounds as bounds
 use Rattle.theory.proofs.Decisions.{canon-known, not-less}

@@ -3,7 +3,7 @@ ghost use Prim.Native.Nat.{_+_, _*_, _≤_, _<_};
 ghost use lib.IntN.{pos, _+ℤ_};
 ghost use lib.Signed.{mag};
 ghost use Rattle.theory.specs.Limits.{order-limit};
-ghost use Rattle.theory.specs.Lists.{nums, ints};
+ghost use Rattle.theory.specs.Lists.{nums};
 ghost use Rattle.theory.specs.Table.{Present, entry};
 ghost use Rattle.orders.specs.Places.{ceiling, Square, UnderCeiling};
 ghost use Rattle.orders.specs.Held.{Long, Startable};

@@ -63,7 +63,7 @@ right-not-wrong (s ∷ ss) r (inr w) = right-not-wrong ss (r .1) w
 pub right-lengths : (ss : List Slice) → (WrongLength ss → ⊥) → RightLengths ss
 right-lengths [] f = tt
 right-lengths (s ∷ ss) f = (
-  elim (ℕ-discrete (s .lent) (s .due)) [ yes e ↦ e | no ne ↦ absurd (f (inl ne)) ],
+  elim (ℕ-discrete (s .lent) (s .wanted)) [ yes e ↦ e | no ne ↦ absurd (f (inl ne)) ],
   right-lengths ss (λ w. f (inr w)),
 )
 

@@ -94,21 +94,21 @@ Among (j ∷ js) k = (k ≡ j) ⊎ Among js k
 -- the length of a lent slice, and the wanted one
 pub record Slice : Type 0 where
   pub lent : ℕ
-  pub due : ℕ
+  pub wanted : ℕ
 
 infix 68 _wanted_
 abbrev pub _wanted_ : ℕ → ℕ → Slice
-_wanted_ k w = record { lent = k; due = w }
+_wanted_ k w = record { lent = k; wanted = w }
 
 -- 2: "a lent slice isn't of the wanted length": one of these slices
 abbrev pub WrongLength : List Slice → Type 0
 WrongLength [] = ⊥
-WrongLength (s ∷ ss) = (s .lent ≢ s .due) ⊎ WrongLength ss
+WrongLength (s ∷ ss) = (s .lent ≢ s .wanted) ⊎ WrongLength ss
 
 -- each of them is
 abbrev pub RightLengths : List Slice → Type 0
 RightLengths [] = Unit
-RightLengths (s ∷ ss) = (s .lent ≡ s .due) × RightLengths ss
+RightLengths (s ∷ ss) = (s .lent ≡ s .wanted) × RightLengths ss
 
 -- ---- a call as a whole
 -- the refusal that is due: the first of the tests that applies, which has no value beside its number

@@ -11,7 +11,7 @@ use Rattle.theory.specs.Limits.{row-limit, sheet-limit}
 use Rattle.theory.specs.Lists.{nums, ints}
 use Rattle.theory.specs.Table.{Order}
 use Rattle.theory.proofs.Signed.{signed as signs}
-use Rattle.orders.specs.Refusals.{Said, gives, refuses}
+use Rattle.orders.specs.Refusals.{Said, refuses}
 use Rattle.handed.specs.Handed.{Sound}
 use Rattle.handed.proofs.Basics.{in-size, sized}
 use Rattle.canon.proofs.Theorems.{found-within}

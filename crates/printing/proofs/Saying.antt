@@ -2,14 +2,14 @@
 use mathlib.Core.Path.{_≡_, refl, sym, ap, subst, _∙_}
 use mathlib.Core.List.{List, [], _∷_, _++_}
 use mathlib.Core.Logic.{inl, inr}
-use Prim.Native.Nat.{ℕ, _*_, _<_, _≤_}
+use Prim.Native.Nat.{ℕ, _*_, _≤_}
 use native.Mathlib.Nat.{mul-le-mul}
 use native.Mathlib.Omega.{arith}
 use lib.IntN.{ℤ}
 use lib.ListN.{length, take, drop, length-append}
 use lib.Seq.{take-at}
-use Rattle.theory.specs.Limits.{row-limit, order-limit}
-use Rattle.theory.specs.Table.{entry, Entries}
+use Rattle.theory.specs.Limits.{row-limit}
+use Rattle.theory.specs.Table.{entry}
 use Rattle.theory.specs.Canon.{NoTransversal}
 use Rattle.orders.specs.declared.Refusal.{Refusal}
 use Rattle.orders.specs.Refusals.{numberOf, valuesOf, First, Said, gives, refuses, refusal}

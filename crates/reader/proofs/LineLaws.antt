@@ -1,9 +1,8 @@
 -- Order lines and headings. Assumes nothing.
 use mathlib.Core.Path.{_≡_, ap, subst, _∙_}
 use mathlib.Core.List.{List, _∷_, _++_}
-use Prim.Native.Nat.{ℕ, _+_, _-_, _*_, _≤_}
+use Prim.Native.Nat.{ℕ, _+_, _-_, _*_}
 use native.Mathlib.Omega.{arith}
-use native.Mathlib.Nat.{mul-le-mul}
 use lib.IntN.{ℤ}
 use lib.ListN.{length, take, drop}
 use Rattle.theory.specs.Limits.{row-limit, order-limit}
@@ -91,7 +90,3 @@ module _ (section : Section) (n : ℕ) (s : List ℕ) where
 
     pub heading-good : (c : ℕ) → Heading (before section) n c (take e s) → HeadingIs section n s c (e + 1)
     heading-good c h = record { line = take e s; is = h; ended = f .ended; inside = omega (arith, f .inside) }
-
--- a square within the limit of rows
-pub square-small : (n : ℕ) → n ≤ row-limit → n * n ≤ row-limit * row-limit
-square-small n h = mul-le-mul h h

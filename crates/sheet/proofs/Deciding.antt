@@ -18,10 +18,9 @@ use Rattle.sheet.specs.Text.{Each, feed, blank, minus, text, signed, row
 use Rattle.sheet.specs.Labels.{LetterOrDigit, digit, capital, small, width, Form, New}
 use Rattle.sheet.specs.Sheet.{Labelled, orderText, IsSheet}
 use Rattle.sheet.specs.Reading.{Ended, Section, opening, of-rows, of-cols, of-orders, State, start, Heading, After, heading}
-use Rattle.sheet.specs.Reading.{row-label, col-label, order-line, begun, withRow, withCol, withOrder, Final, tableOf, Outcome, good}
+use Rattle.sheet.specs.Reading.{row-label, col-label, order-line, begun, withRow, withCol, withOrder, tableOf, Outcome, good}
 use Rattle.sheet.specs.Reading.{wrong, Reads, done, short, unfit, next}
 use Rattle.sheet.specs.FirstWrong.{FirstWrong}
-use Rattle.sheet.proofs.Bytes.{each-weak}
 use Rattle.sheet.proofs.Numbers.{Digit, text-digits, text-some, valueFrom, value-text}
 use Rattle.sheet.proofs.Slots.{letter-low, letter-gap, letter-gap-2, letter-high}
 use Rattle.sheet.proofs.Lines.{Unbroken, Cut, unbroken, broken, cut, rank, SameOrder}

@@ -4,10 +4,10 @@ use mathlib.Core.List.{List, [], _∷_, _++_, append-assoc, append-nil}
 use Prim.Native.Nat.{ℕ, _+_}
 use native.Mathlib.Omega.{arith}
 use lib.ListN.{length}
-use Rattle.sheet.specs.Text.{feed, ended}
+use Rattle.sheet.specs.Text.{feed}
 use Rattle.sheet.specs.Sheet.{endedLines}
 use Rattle.sheet.specs.Reading.{Ended, State, start, tableOf, wrong, Reads, short, unfit, WrongLine}
-use Rattle.sheet.specs.FirstWrong.{CanStand, FirstWrong}
+use Rattle.sheet.specs.FirstWrong.{FirstWrong}
 use Rattle.sheet.proofs.Lines.{Cut, unbroken, broken, cut}
 use Rattle.sheet.proofs.Once.{wrong-once, good-not-wrong}
 use Rattle.sheet.proofs.Runs.{Run, none, then, run-append, run-split, run-once, run-one, after-unbroken, first, run-reads, Halt}

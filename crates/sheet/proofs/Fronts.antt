@@ -2,10 +2,9 @@
 use mathlib.Core.Path.{_≡_, refl, sym, ap, subst, subst⁻¹, _∙_}
 use mathlib.Core.Logic.{_⊎_, inl, inr}
 use mathlib.Core.List.{List, [], _∷_, _++_, append-assoc, append-nil, List-discrete}
-use Prim.Native.Nat.{ℕ, zero, suc, _+_, _-_, _*_, _<_, _≤_}
+use Prim.Native.Nat.{ℕ, zero, suc, _+_, _-_, _<_, _≤_}
 use native.Mathlib.Omega.{arith}
 use native.Mathlib.Decide.{ℕ-discrete}
-use lib.IntN.{ℤ}
 use lib.ListN.{length, getD, length-append}
 use Rattle.theory.specs.Limits.{row-limit}
 use Rattle.theory.proofs.Pigeonhole.{exists, crowded}
@@ -17,7 +16,6 @@ use Rattle.sheet.specs.FirstWrong.{CanStand}
 use Rattle.sheet.proofs.Bytes.{each-weak}
 use Rattle.sheet.proofs.Numbers.{Digit, text-digits, text-some, text-once, text-within}
 use Rattle.sheet.proofs.Slots.{labels-none, labels-more, length-more}
-use Rattle.sheet.proofs.Lines.{rank}
 use Rattle.sheet.proofs.Runs.{Run, none, then, run-append, run-split}
 use Rattle.sheet.proofs.Matching.{inRows, inCols, inOrders, Stage, at-start, in-rows, in-cols, in-orders, run-stage, rendered}
 use Rattle.sheet.proofs.Matching.{run-rows, run-cols, run-sheet}

@@ -13,7 +13,7 @@ use Rattle.sheet.specs.Text.{text, rowsHead, colsHead, ordersHead}
 use Rattle.sheet.specs.Labels.{Labels}
 use Rattle.sheet.specs.Sheet.{Labelled, Stands, endedLines, isAbsent, presentCount, orderText, orderLines, headed, sheetLines, sheetOf, IsSheet}
 use Rattle.sheet.specs.Reading.{of-rows, of-cols, of-orders, State, start, After, heading, row-label, col-label, order-line, Final}
-use Rattle.sheet.specs.Reading.{Outcome, good, tableOf, Reads, done}
+use Rattle.sheet.specs.Reading.{good, tableOf, Reads, done}
 use Rattle.sheet.proofs.Slots.{labels-none, labels-more, labels-new, labels-form, length-more}
 use Rattle.sheet.proofs.Lines.{rank}
 use Rattle.sheet.proofs.Orders.{absent-is, absent-not, order-present, lines-append, lines-absent, lines-one, count-append}

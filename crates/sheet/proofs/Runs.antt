@@ -8,7 +8,7 @@ use Rattle.sheet.specs.Text.{feed, ended}
 use Rattle.sheet.specs.Sheet.{endedLines}
 use Rattle.sheet.specs.Reading.{Ended, Section, opening, of-rows, of-cols, of-orders, State, Heading, After, heading, row-label}
 use Rattle.sheet.specs.Reading.{col-label, order-line, Final, tableOf, Outcome, good, wrong, Reads, done, short, unfit, next}
-use Rattle.sheet.proofs.Lines.{Unbroken, ended-once, unbroken-unended, none-unended, rows-unbroken, cols-unbroken, orders-unbroken}
+use Rattle.sheet.proofs.Lines.{Unbroken, ended-once, unbroken-unended, rows-unbroken, cols-unbroken, orders-unbroken}
 use Rattle.sheet.proofs.Lines.{label-unbroken, order-unbroken}
 use Rattle.sheet.proofs.Once.{after-once}
 

@@ -1,7 +1,8 @@
 -- Each section has its heading. Assumes nothing.
 use borrow.Author.Needs.{needs}
 use native.Mathlib.Omega.{arith}
-use Rattle.reader.proofs.LineLaws.{heading-rows, heading-cols, heading-orders, square-small}
+use Rattle.orders.proofs.Places.{square-small}
+use Rattle.reader.proofs.LineLaws.{heading-rows, heading-cols, heading-orders}
 use Rattle.reader.proofs.heading_count.Statement.{statement}
 use Rattle.reader.proofs.heading_count.Tie as tie
 

@@ -6,7 +6,7 @@ use mathlib.Core.Path.{_≡_, sym, ap}
 use lib.ListN.{length}
 use mir.Facts.{toZ-ofZ}
 use Rattle.lettering.proofs.TextLaws.{number-short}
-use Rattle.sheet.specs.Text.{text, signed}
+use Rattle.sheet.specs.Text.{signed}
 use Rattle.sheet.proofs.Orders.{some-row}
 use Rattle.writer.specs.Parts.{number-most, value-most}
 use Rattle.writer.proofs.OrderLaws.{absent-bits-is, absent-bits-not, line-absent, present-length, row-fits, col-fits}

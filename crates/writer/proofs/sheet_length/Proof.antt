@@ -1,7 +1,7 @@
 -- The sheet is measured section by section. Assumes nothing.
 use borrow.Author.Needs.{needs}
 use native.Mathlib.Omega.{arith}
-use Prim.Native.Nat.{_+_, _*_, _≤_}
+use Prim.Native.Nat.{_*_, _≤_}
 use mathlib.Core.Path.{ap}
 use lib.ListN.{length}
 use Rattle.theory.specs.Limits.{row-limit}

@@ -8,7 +8,7 @@ use lib.Seq.{take-at}
 use Rattle.orders.specs.Refusals.{gives, refuses}
 use Rattle.sheet.specs.Text.{over}
 use Rattle.lettering.specs.Putting.{Puts}
-use Rattle.printing.specs.Printed.{printed}
+use Rattle.page.specs.Printed.{printed}
 use Rattle.printing.specs.Promise.{SheetSays, Prints, PrintPromise, no-room, wrote}
 
 module _ {s page page′ : List ℕ} {k : ℕ} (p : Prints (SheetSays s) page page′ k) where

@@ -20,8 +20,8 @@ use Rattle.sheet.specs.Sheet.{endedLines, Labelled, Stands}
 use Rattle.sheet.specs.Reading.{State, Outcome, wrong, Reads, done, short, unfit, next, TooLong}
 use Rattle.sheet.proofs.Matching.{read-is-written}
 use Rattle.lettering.proofs.TextLaws.{text-within}
-use Rattle.printing.specs.Printed.{Figures, Section, numbers, integers, sections, sectionText, refusedName, spaced, printed}
-use Rattle.printing.specs.Printed.{line-room, section-room, enough}
+use Rattle.page.specs.Printed.{Figures, Section, numbers, integers, sections, sectionText, refusedName, spaced, printed}
+use Rattle.printing.specs.Room.{line-room, section-room, enough}
 use Rattle.printing.specs.Promise.{FiguresOf, TableSays, no-transversal, solved, SheetSays, too-long, wrong-line, of-table}
 
 -- ---- sections that are short

@@ -8,7 +8,8 @@ use lib.ListN.{length, take, length-take}
 use lib.Seq.{take-all, length-take-le}
 use Rattle.theory.specs.Limits.{sheet-limit}
 use Rattle.orders.specs.Refusals.{Said}
-use Rattle.printing.specs.Printed.{Figures, enough}
+use Rattle.page.specs.Printed.{Figures}
+use Rattle.printing.specs.Room.{enough}
 use Rattle.printing.specs.Promise.{SheetSays, too-long, wrong-line, of-table, Prints, ReadOf, InputPromise}
 use Rattle.printing.proofs.Copying.{page-inside}
 

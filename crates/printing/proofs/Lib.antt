@@ -1,6 +1,3 @@
-pub mod Joining
-pub mod Headings
-pub mod Refusing
 pub mod Fits
 pub mod Saying
 pub mod Copying

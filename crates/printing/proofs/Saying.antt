@@ -29,7 +29,7 @@ use Rattle.reader.specs.Promise as reading
 use Rattle.reader.proofs.PromiseLaws.{lengths-right}
 use Rattle.reader.specs.declared.Read.{Read}
 use Rattle.reader.specs.declared.Read.the-variants as read
-use Rattle.printing.specs.Printed.{Figures, figures}
+use Rattle.page.specs.Printed.{Figures, figures}
 use Rattle.printing.specs.Promise.{TableSays, no-transversal, solved, SheetSays, too-long, wrong-line, of-table, Prints}
 use Rattle.printing.specs.Parts.{Largest}
 use Rattle.printing.proofs.Fits.{stands-sound}

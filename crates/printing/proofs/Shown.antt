@@ -19,7 +19,7 @@ use Rattle.sheet.specs.Text.{ascii, over, text, digits}
 use Rattle.sheet.specs.Labels.{small, width, Form, Labels}
 use Rattle.sheet.specs.Sheet.{Labelled, Stands, sheetOf, endedLines, orderLines, presentCount}
 use Rattle.sheet.proofs.Matching.{written-is-read}
-use Rattle.printing.specs.Printed.{Figures, figures, printed}
+use Rattle.page.specs.Printed.{Figures, figures, printed}
 use Rattle.printing.specs.Shown.{pendulum-sheet, pendulum-answer}
 use Rattle.printing.specs.Promise.{SheetSays, solved, of-table, PrintPromise, no-room, wrote}
 use Rattle.printing.proofs.Unique.{sheet-once}

@@ -14,7 +14,7 @@ use Rattle.orders.specs.Refusals.{numberOf, valuesOf, Said, gives, refuses}
 use Rattle.orders.proofs.Refusals.{refusal-once, given-once, not-both}
 use Rattle.sheet.specs.Text.{over}
 use Rattle.sheet.proofs.Once.{good-once, wrong-once, good-not-wrong}
-use Rattle.printing.specs.Printed.{Figures, figures, printed}
+use Rattle.page.specs.Printed.{Figures, figures, printed}
 use Rattle.printing.specs.Promise.{FiguresOf, TableSays, no-transversal, solved, SheetSays, too-long, wrong-line, of-table}
 use Rattle.printing.specs.Promise.{says, PrintPromise, no-room, wrote, InputPromise}
 use Rattle.printing.specs.declared.Printed.{Printed}

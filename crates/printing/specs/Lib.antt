@@ -1,5 +1,5 @@
--- Printed and Promise are what the customer must believe; Parts is what the functions inside tell each other.
-pub mod Printed
+-- Promise, Room and Shown are what the customer must believe; Parts is what the functions inside tell each other.
+pub mod Room
 pub mod Shown
 pub mod Promise
 pub mod Parts

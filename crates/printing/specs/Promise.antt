@@ -13,7 +13,8 @@ use Rattle.sheet.specs.Text.{over}
 use Rattle.sheet.specs.Sheet.{Labelled}
 use Rattle.sheet.specs.Reading.{start, good, Reads, TooLong, WrongLine}
 use Rattle.lettering.specs.Putting.{Puts}
-use Rattle.printing.specs.Printed.{Figures, printed, enough}
+use Rattle.page.specs.Printed.{Figures, printed}
+use Rattle.printing.specs.Room.{enough}
 use Rattle.printing.specs.declared.Printed.{Printed}
 use Rattle.printing.specs.declared.Printed.the-variants.{Bytes, Refused}
 

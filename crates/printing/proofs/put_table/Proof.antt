@@ -13,7 +13,7 @@ use mir.Val.{SFits, ofZ, toZ}
 use Rattle.theory.specs.Limits.{row-limit}
 use Rattle.orders.specs.Refusals.{gives, refusal}
 use Rattle.handed.proofs.Basics.{sized}
-use Rattle.printing.specs.Printed.{figures}
+use Rattle.page.specs.Printed.{figures}
 use Rattle.printing.specs.Promise.{TableSays}
 use Rattle.printing.proofs.Fits.{table-fits}
 use Rattle.printing.proofs.Saying.{Sized, solved-sized, front-says, refused-says, front-inside}

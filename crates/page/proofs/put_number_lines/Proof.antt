@@ -7,9 +7,9 @@ use mathlib.Core.List.{List}
 use lib.ListN.{length}
 use Rattle.sheet.specs.Text.{text, ended}
 use Rattle.lettering.proofs.PutLaws.{puts-same}
-use Rattle.printing.proofs.Joining.{Joined, lines-joined, joined-none, joined-length, joined-at, next-room, next-end, joined-next, joined-all}
-use Rattle.printing.proofs.put_number_lines.Statement.{statement}
-use Rattle.printing.proofs.put_number_lines.Tie as tie
+use Rattle.page.proofs.Joining.{Joined, lines-joined, joined-none, joined-length, joined-at, next-room, next-end, joined-next, joined-all}
+use Rattle.page.proofs.put_number_lines.Statement.{statement}
+use Rattle.page.proofs.put_number_lines.Tie as tie
 
 abbrev line : ℕ → List ℕ
 line v = ended (text v)

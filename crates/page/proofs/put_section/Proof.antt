@@ -3,8 +3,8 @@ use borrow.Author.Needs.{needs}
 use native.Mathlib.Omega.{arith}
 use mathlib.Core.Path.{_≡_}
 use mir.Facts.{toZ-ofZ}
-use Rattle.printing.proofs.put_section.Statement.{statement}
-use Rattle.printing.proofs.put_section.Tie as tie
+use Rattle.page.proofs.put_section.Statement.{statement}
+use Rattle.page.proofs.put_section.Tie as tie
 
 -- the last arm is taken for the last section alone
 last : (c : tie.At-match-rest) → c .before .before .before .before .args .k ≡ 4

@@ -10,7 +10,7 @@ use Rattle.orders.specs.Refusals.{numberOf, refusal}
 use Rattle.orders.proofs.Refusal.{the-type}
 use Rattle.orders.proofs.Refusals.{others, values-none}
 use Rattle.sheet.specs.Text.{ascii, text, digits, ended}
-use Rattle.printing.specs.Printed.{spaced, printed}
+use Rattle.page.specs.Printed.{spaced, printed}
 
 -- what stands before the last number of a refusal's line
 abbrev pub refusedHead : List ℕ

@@ -7,10 +7,10 @@ use lib.ListN.{length}
 use mir.Facts.{toZ-ofZ}
 use mir.Syntax.{w32}
 use mir.Val.{toZ}
-use Rattle.printing.specs.Printed.{Section, figures, numbers, sections, sectionText}
-use Rattle.printing.proofs.Joining.{Joined, joined-none, joined-length, joined-at, next-room, next-end, joined-next, joined-all}
-use Rattle.printing.proofs.put_figures.Statement.{statement}
-use Rattle.printing.proofs.put_figures.Tie as tie
+use Rattle.page.specs.Printed.{Section, figures, numbers, sections, sectionText}
+use Rattle.page.proofs.Joining.{Joined, joined-none, joined-length, joined-at, next-room, next-end, joined-next, joined-all}
+use Rattle.page.proofs.put_figures.Statement.{statement}
+use Rattle.page.proofs.put_figures.Tie as tie
 
 -- past the last section
 abbrev none : Section

@@ -7,10 +7,10 @@ use lib.ListN.{length}
 use Rattle.orders.specs.Refusals.{refusal}
 use Rattle.sheet.specs.Text.{text, ended}
 use Rattle.lettering.proofs.PutLaws.{puts-same}
-use Rattle.printing.specs.Printed.{printed}
-use Rattle.printing.proofs.Refusing.{refusedHead, lineHead, refused-line, refused-other}
-use Rattle.printing.proofs.put_refusal.Statement.{statement}
-use Rattle.printing.proofs.put_refusal.Tie as tie
+use Rattle.page.specs.Printed.{printed}
+use Rattle.page.proofs.Refusing.{refusedHead, lineHead, refused-line, refused-other}
+use Rattle.page.proofs.put_refusal.Statement.{statement}
+use Rattle.page.proofs.put_refusal.Tie as tie
 
 -- the lines that are put are the printed refusals
 line-is : (c : tie.After-r) → ended (lineHead ++ text (c .r .given .0 .0)) ≡ printed (refusal (c .before .before .before .args .r))

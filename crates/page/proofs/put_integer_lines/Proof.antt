@@ -12,9 +12,9 @@ use Rattle.orders.proofs.Entries.{back}
 use Rattle.sheet.specs.Text.{signed, ended}
 use Rattle.lettering.specs.Putting.{Puts}
 use Rattle.lettering.proofs.PutLaws.{puts-same}
-use Rattle.printing.proofs.Joining.{Joined, lines-joined, joined-none, joined-length, joined-at, next-room, next-end, joined-next, joined-all}
-use Rattle.printing.proofs.put_integer_lines.Statement.{statement}
-use Rattle.printing.proofs.put_integer_lines.Tie as tie
+use Rattle.page.proofs.Joining.{Joined, lines-joined, joined-none, joined-length, joined-at, next-room, next-end, joined-next, joined-all}
+use Rattle.page.proofs.put_integer_lines.Statement.{statement}
+use Rattle.page.proofs.put_integer_lines.Tie as tie
 
 abbrev line : ℤ → List ℕ
 line v = ended (signed v)

@@ -1,9 +1,8 @@
 -- "The printed answer, whole."
 use mathlib.Core.List.{List, [], _∷_, _++_, map, flatMap}
-use Prim.Native.Nat.{ℕ, _+_, _*_}
+use Prim.Native.Nat.{ℕ}
 use Prim.Native.String.{String}
 use lib.IntN.{ℤ}
-use Rattle.theory.specs.Limits.{row-limit}
 use Rattle.sheet.specs.Text.{blank, ascii, text, signed, ended}
 use Rattle.sheet.specs.Sheet.{countedLines}
 use Rattle.orders.specs.Refusals.{Said, gives, refuses}
@@ -59,23 +58,3 @@ refusedName = ascii "refused"
 abbrev pub printed : Said Figures → List ℕ
 printed (gives f) = flatMap sectionText (sections f)
 printed (refuses k vs) = ended (refusedName ++ spaced (k ∷ vs))
-
--- ---- room for every answer (`answers-fit`)
--- a line: a sign, the ten digits of a number of 32 bits, and a line feed
-abbrev pub line-room : ℕ
-line-room = 12
-
--- a heading: a name of ten bytes, a blank, a count of four digits, and a line feed
-abbrev pub heading-room : ℕ
-heading-room = 16
-
--- a section: its heading, and a line for every row
-abbrev pub section-room : ℕ
-section-room = heading-room + row-limit * line-room
-
--- ten sections, with some to spare
-abbrev pub sections-most : ℕ
-sections-most = 10
-
-abbrev pub enough : ℕ
-enough = sections-most * section-room

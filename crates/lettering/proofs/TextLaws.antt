@@ -14,7 +14,7 @@ use mir.Val.{SFits, Fits, ofZ, toZ}
 use Rattle.theory.proofs.Signed.{signed as signs}
 use Rattle.sheet.specs.Text.{text, signed, minus}
 use Rattle.sheet.proofs.Numbers.{text-small, text-large, by-tens}
-pub use Rattle.sheet.proofs.Numbers.{text-within}
+use Rattle.sheet.proofs.Numbers.{text-within}
 
 -- a number's length: never more than the number and one, and one digit more for each ten times
 pub text-length : (n : ℕ) → length (text n) ≤ n + 1

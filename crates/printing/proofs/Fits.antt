@@ -16,10 +16,9 @@ use Rattle.handed.specs.Handed.{Sound}
 use Rattle.handed.proofs.Basics.{in-size, sized}
 use Rattle.canon.proofs.Theorems.{found-within}
 use Rattle.sheet.specs.Text.{blank, feed, ascii, text, digits, signed, ended}
-use Rattle.sheet.specs.Sheet.{endedLines, Labelled, Stands}
-use Rattle.sheet.specs.Reading.{State, Outcome, wrong, Reads, done, short, unfit, next, TooLong}
-use Rattle.sheet.proofs.Matching.{read-is-written}
-use Rattle.lettering.proofs.TextLaws.{text-within}
+use Rattle.sheet.specs.Sheet.{endedLines, Labelled, Stands, TooLong}
+use Rattle.sheet.specs.FirstWrong.{FirstWrong}
+use Rattle.sheet.proofs.Numbers.{text-within}
 use Rattle.page.specs.Printed.{Figures, Section, numbers, integers, sections, sectionText, refusedName, spaced, printed}
 use Rattle.printing.specs.Room.{line-room, section-room, enough}
 use Rattle.printing.specs.Promise.{FiguresOf, TableSays, no-transversal, solved, SheetSays, too-long, wrong-line, of-table}
@@ -133,13 +132,14 @@ table-fits n t a h (solved f p e) =
     omega (arith, ap (λ x. length (printed x)) e, sections-fit (figures-short n t f h p))
 
 -- ---- the answer of a sheet
--- the number of a wrong line: each line before it took a byte at least
-line-within : {st : State} {k : ℕ} {s : List ℕ} {o : Outcome} (j : ℕ) → Reads st k s o → o ≡ wrong j → j ≤ k + length s
-line-within j (done z f e) is = absurd (let c : _≡_ {A = ℕ} 0 1 = cc in omega arith)
-line-within {k = k} j (short u n e) is = let c : k ≡ j = cc in omega arith
-line-within {k = k} j (unfit l r d n e) is = let c : k ≡ j = cc in omega arith
-line-within {s = s} j (next l r t d a m) is =
-    omega (arith, line-within j m is, ap length (d .parts), length-append l (feed ∷ r))
+-- the number of a wrong line: each line before it takes a byte at least
+lines-some : (ls : List (List ℕ)) → length ls ≤ length (endedLines ls)
+unfolding endedLines
+lines-some [] = omega arith
+lines-some (l ∷ ls) = omega (arith, lines-some ls, length-append (ended l) (endedLines ls), length-append l (feed ∷ []))
+
+line-within : (s : List ℕ) (k : ℕ) → FirstWrong s k → k ≤ 1 + length s
+line-within s k f = omega (arith, f .number, lines-some (f .before), ap length (f .parts), length-append (endedLines (f .before)) (f .rest))
 
 long-printed : printed (refuses 9 []) ≡ ascii "refused 9\n"
 unfolding text digits
@@ -174,6 +174,6 @@ stands-sound t w =
 pub answers-fit : (s : List ℕ) (a : Said Figures) → SheetSays s a → length (printed a) ≤ enough
 answers-fit s a (too-long l e) = omega (arith, ap (λ x. length (printed x)) e, ap length long-printed)
 answers-fit s a (wrong-line k l r e) =
-    omega (arith, ap (λ x. length (printed x)) e, line-printed k (omega (arith, line-within k r refl, few-bytes s l)))
+    omega (arith, ap (λ x. length (printed x)) e, line-printed k (omega (arith, line-within s k r, few-bytes s l)))
 answers-fit s a (of-table t l r p) =
-    table-fits (length (t .row-labels)) (t .entries) a (stands-sound t (read-is-written s t r .stands)) p
+    table-fits (length (t .row-labels)) (t .entries) a (stands-sound t (r .stands)) p

@@ -22,9 +22,7 @@ use Rattle.canon.specs.Promises.{Solves, refused, answered}
 use Rattle.canon.specs.declared.Answer.{Answer}
 use Rattle.canon.specs.declared.Answer.the-variants.{Sum, Refused}
 use Rattle.sheet.specs.Text.{over}
-use Rattle.sheet.specs.Sheet.{Labelled}
-use Rattle.sheet.specs.Reading.{start, good, Reads, TooLong}
-use Rattle.sheet.proofs.Matching.{read-is-written}
+use Rattle.sheet.specs.Sheet.{Labelled, IsSheet, TooLong}
 use Rattle.reader.specs.Promise as reading
 use Rattle.reader.proofs.PromiseLaws.{lengths-right}
 use Rattle.reader.specs.declared.Read.{Read}
@@ -115,7 +113,7 @@ front-inside l behind e = omega (arith, length-append l behind)
 pub record Taken (s : List ℕ) (n : ℕ) (b : List ℤ) : Type 0 where
   pub labelled : Labelled
   pub long : TooLong s → ⊥
-  pub reads : Reads start 1 s (good labelled)
+  pub is-sheet : IsSheet labelled s
   pub size : n ≡ length (labelled .row-labels)
   pub front : take (n * n) b ≡ labelled .entries
   pub sound : Sound n (take (n * n) b) []
@@ -149,7 +147,7 @@ module _ {s : List ℕ} {m m′ : reading.Lent} {r : Read} (w : reading.Wanted m
       go (reading.wrong-line k v g e f) = not-both n 10 (k ∷ []) (sym (ap reading.says q) ∙ e)
       go (reading.read t v g e f) =
           let c : n ≡ length (t .row-labels) = given-once n (length (t .row-labels)) (sym (ap reading.says q) ∙ e) in
-          let st = read-is-written s t g .stands in
+          let st = g .stands in
           let len : length (t .entries) ≡ n * n = st .square ∙ ap (λ i. i * i) (sym c) in
           let x : m′ .table ≡ over (t .entries) (m .table) = ap (λ i. i .table) f in
           let behind = drop (length (t .entries)) (m .table) in
@@ -157,7 +155,7 @@ module _ {s : List ℕ} {m m′ : reading.Lent} {r : Read} (w : reading.Wanted m
           record {
             labelled = t;
             long = v .1 .0;
-            reads = g;
+            is-sheet = g;
             size = c;
             front = fr;
             sound = rw (fr, c) (stands-sound t st);
@@ -172,7 +170,7 @@ sheet-table {n = n} k p =
     record {
       said = p .said;
       holds =
-          of-table (k .labelled) (k .long) (k .reads)
+          of-table (k .labelled) (k .long) (k .is-sheet)
           (subst (λ i. TableSays i (k .labelled .entries) (p .said)) (k .size) (subst (λ i. TableSays n i (p .said)) (k .front) (p .holds)));
       puts = p .puts;
     }

@@ -1,5 +1,5 @@
 -- For the pendulum's sheet the promise of printing leaves one answer open: document 01's, byte by byte. Assumes nothing.
-use mathlib.Core.Path.{_≡_, refl, ap, _∙_}
+use mathlib.Core.Path.{_≡_, refl, sym, ap, _∙_}
 use mathlib.Core.Logic.{_≢_}
 use mathlib.Core.Bool.{Bool, _&&_}
 use mathlib.Core.List.{List, [], _∷_, flatMap}
@@ -18,7 +18,6 @@ use Rattle.orders.specs.Refusals.{Said, gives, refuses}
 use Rattle.sheet.specs.Text.{ascii, over, text, digits}
 use Rattle.sheet.specs.Labels.{small, width, Form, Labels}
 use Rattle.sheet.specs.Sheet.{Labelled, Stands, sheetOf, endedLines, orderLines, presentCount}
-use Rattle.sheet.proofs.Matching.{written-is-read}
 use Rattle.page.specs.Printed.{Figures, figures, printed}
 use Rattle.printing.specs.Shown.{pendulum-sheet, pendulum-answer}
 use Rattle.printing.specs.Promise.{SheetSays, solved, of-table, PrintPromise, no-room, wrote}
@@ -125,7 +124,7 @@ index = record { row = 2; inside = omega arith; is = refl; largest = most }
 
 says : SheetSays pendulum-sheet (gives shown)
 says =
-    of-table drawn (omega arith) (rw sheet-is at (written-is-read drawn stands))
+    of-table drawn (omega arith) (record { stands = stands; is = sym sheet-is })
     (solved shown
     (record {
       adds-long = refl;

@@ -13,7 +13,8 @@ use Rattle.theory.proofs.Unique.{solution-once, index-once}
 use Rattle.orders.specs.Refusals.{numberOf, valuesOf, Said, gives, refuses}
 use Rattle.orders.proofs.Refusals.{refusal-once, given-once, not-both}
 use Rattle.sheet.specs.Text.{over}
-use Rattle.sheet.proofs.Once.{good-once, wrong-once, good-not-wrong}
+use Rattle.sheet.proofs.Matching.{labelled-once}
+use Rattle.sheet.proofs.FirstWrong.{first-once}
 use Rattle.page.specs.Printed.{Figures, figures, printed}
 use Rattle.printing.specs.Promise.{FiguresOf, TableSays, no-transversal, solved, SheetSays, too-long, wrong-line, of-table}
 use Rattle.printing.specs.Promise.{says, PrintPromise, no-room, wrote, InputPromise}
@@ -68,12 +69,12 @@ sheet-once s a b (too-long l e) (too-long m f) = e ∙ sym f
 sheet-once s a b (too-long l e) (wrong-line k m r f) = absurd (m l)
 sheet-once s a b (too-long l e) (of-table t m r p) = absurd (m l)
 sheet-once s a b (wrong-line k l r e) (too-long m f) = absurd (l m)
-sheet-once s a b (wrong-line k l r e) (wrong-line j m q f) = e ∙ ap (λ x. refuses 10 (x ∷ [])) (wrong-once r q) ∙ sym f
-sheet-once s a b (wrong-line k l r e) (of-table t m q p) = good-not-wrong q r
+sheet-once s a b (wrong-line k l r e) (wrong-line j m q f) = e ∙ ap (λ x. refuses 10 (x ∷ [])) (first-once s k j r q) ∙ sym f
+sheet-once s a b (wrong-line k l r e) (of-table t m q p) = absurd (r .no-sheet t q)
 sheet-once s a b (of-table t l r p) (too-long m f) = absurd (l m)
-sheet-once s a b (of-table t l r p) (wrong-line k m q f) = good-not-wrong r q
+sheet-once s a b (of-table t l r p) (wrong-line k m q f) = absurd (q .no-sheet t r)
 sheet-once s a b (of-table t l r p) (of-table u m q o) =
-    let c : t ≡ u = good-once r q in
+    let c : t ≡ u = labelled-once r q in
     table-once (length (u .row-labels)) (u .entries) a b (rw c at p) o
 
 -- Uniqueness of printing: two results with two memories that both meet the statement are the same result and the same memory.

@@ -10,8 +10,8 @@ use Rattle.theory.specs.Table.{entry}
 use Rattle.theory.specs.Canon.{NoTransversal, Solution, Index}
 use Rattle.orders.specs.Refusals.{Said, gives, refuses, refusal}
 use Rattle.sheet.specs.Text.{over}
-use Rattle.sheet.specs.Sheet.{Labelled}
-use Rattle.sheet.specs.Reading.{start, good, Reads, TooLong, WrongLine}
+use Rattle.sheet.specs.Sheet.{Labelled, IsSheet, TooLong}
+use Rattle.sheet.specs.FirstWrong.{FirstWrong}
 use Rattle.lettering.specs.Putting.{Puts}
 use Rattle.page.specs.Printed.{Figures, printed}
 use Rattle.printing.specs.Room.{enough}
@@ -41,8 +41,8 @@ pub data TableSays (n : ℕ) (t : List ℤ) (a : Said Figures) : Type 0 where
 -- answer of its table says
 pub data SheetSays (s : List ℕ) (a : Said Figures) : Type 0 where
   too-long : TooLong s → a ≡ refuses 9 [] → SheetSays s a
-  wrong-line : (k : ℕ) → (TooLong s → ⊥) → WrongLine s k → a ≡ refuses 10 (k ∷ []) → SheetSays s a
-  of-table : (t : Labelled) → (TooLong s → ⊥) → Reads start 1 s (good t) → TableSays (length (t .row-labels)) (t .entries) a → SheetSays s a
+  wrong-line : (k : ℕ) → (TooLong s → ⊥) → FirstWrong s k → a ≡ refuses 10 (k ∷ []) → SheetSays s a
+  of-table : (t : Labelled) → (TooLong s → ⊥) → IsSheet t s → TableSays (length (t .row-labels)) (t .entries) a → SheetSays s a
 
 -- the sheet, the room at the call, the room after it, and what is returned: the printed answer stands at the front of the room,
 -- and bytes after it stay; or it does not fit, and the room holds what it held at the call

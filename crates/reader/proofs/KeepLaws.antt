@@ -13,10 +13,10 @@ use Rattle.theory.specs.Limits.{row-limit}
 use Rattle.theory.specs.Table.{absent}
 use Rattle.sheet.specs.Labels.{width, Form, New, Labels, filled, slots, slot, Repeated}
 use Rattle.sheet.specs.Reading.{State, After, heading, row-label, col-label, order-line, withRow, withCol, withOrder}
-use Rattle.sheet.proofs.Bytes.{clash}
+use Rattle.orders.proofs.Entries.{clash}
 use Rattle.sheet.proofs.Slots.{Short, labels-short, slots-length, slots-append, slot-at, filled-once, labels-more, length-more}
 use Rattle.sheet.proofs.Lines.{rank}
-use Rattle.sheet.proofs.Orders.{cell}
+use Rattle.orders.proofs.Places.{cell}
 use Rattle.fields.specs.Fields.{LineIs}
 use Rattle.fields.proofs.LineLaws.{line-of, line-only}
 use Rattle.reader.specs.declared.Section.{Section}
@@ -108,7 +108,7 @@ module _ (b : List ℕ) (ls : List (List ℕ)) (l : List ℕ) (h : Holding b (ls
       })
 
 pub unkept-label : (ls : List (List ℕ)) (l b : List ℕ) → (Form l → New ls l → ⊥) → LabelKept ls l false b
-unkept-label ls l b n = record { fit = λ e. clash {t = false} e refl; unfit = λ e. n }
+unkept-label ls l b n = record { fit = λ e. clash {b = false} e refl; unfit = λ e. n }
 
 -- a label put into the next place is kept unless it stands in an earlier place too
 module _ (b : List ℕ) (ls : List (List ℕ)) (l : List ℕ) (h : Holding b ls) (p : Labels ls) (f : Form l) (few : length ls < row-limit) where
@@ -123,7 +123,7 @@ module _ (b : List ℕ) (ls : List (List ℕ)) (l : List ℕ) (h : Holding b ls)
   compared false t =
       record {
         fit = λ e. (f, unrepeated-new put ls l put-holds p f few (t .fails refl), put-holds);
-        unfit = λ e. clash {t = true} refl e;
+        unfit = λ e. clash {b = true} refl e;
       }
 
   pub compared-label : (k : ℕ) (again : Bool) → length ls ≡ k → Tells again (Repeated (paste b (width * k) l (length l)) k)

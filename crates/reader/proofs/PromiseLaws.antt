@@ -13,9 +13,11 @@ use Rattle.orders.specs.Refusals.{Clear, WrongLength, gives, refuses}
 use Rattle.orders.proofs.Refusals.{right-not-wrong}
 use Rattle.sheet.specs.Text.{over}
 use Rattle.sheet.specs.Labels.{width, slots, Labels}
-use Rattle.sheet.specs.Reading.{tableOf, TooLong, WrongLine}
+use Rattle.sheet.specs.Sheet.{TooLong}
+use Rattle.sheet.specs.Reading.{tableOf, WrongLine}
 use Rattle.sheet.proofs.Slots.{slots-length, labels-short}
 use Rattle.sheet.proofs.Matching.{read-is-written}
+use Rattle.sheet.proofs.FirstWrong.{wrong-is-first}
 use Rattle.reader.specs.Parts.{Holding, Ends}
 use Rattle.reader.specs.Promise.{Lent, lent, Wanted, slices, reader-tests, ReadPromise, refused, wrong-line, read}
 use Rattle.reader.proofs.KeepLaws.{take-replicate}
@@ -41,7 +43,7 @@ module _ (s : List ℕ) (m : Lent) (lengths : Wanted m) where
   all-clear few = (lengths-right lengths, ((λ long. omega arith), tt))
 
   pub refuse-line : length s ≤ sheet-limit → (k : ℕ) → WrongLine s k → ReadPromise s m m (refuses 10 (k ∷ []))
-  refuse-line few k line = wrong-line k (all-clear few) line refl refl
+  refuse-line few k line = wrong-line k (all-clear few) (wrong-is-first s k line) refl refl
 
 -- the first n × n entries of what is kept are the table's
 table-front : (e : List ℤ) (k : ℕ) → length e ≤ k → k ≤ row-limit * row-limit
@@ -97,4 +99,4 @@ module _ {s : List ℕ} {n : ℕ} {t : List ℤ} {a b : List ℕ} (e : Ends s n 
       q ∙ copied-labels a (m .row-labels) (st .row-labels) n (e .rows-are) (h .rows-held) (h .rows-stand) in
       let z : b′ ≡ over (slots (st .col-labels)) (m .col-labels) =
       u ∙ copied-labels b (m .col-labels) (st .col-labels) n (e .cols-are) (h .cols-held) (h .cols-stand) in
-      read (tableOf st) (all-clear s m w few) (e .read) (ap gives (sym (e .rows-are))) (λ i. lent (x i) (y i) (z i))
+      read (tableOf st) (all-clear s m w few) (read-is-written s (tableOf st) (e .read)) (ap gives (sym (e .rows-are))) (λ i. lent (x i) (y i) (z i))

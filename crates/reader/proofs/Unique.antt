@@ -5,7 +5,8 @@ use Prim.Native.Nat.{ℕ}
 use lib.ListN.{length}
 use Rattle.orders.specs.Refusals.{numberOf, valuesOf, Said, gives, refuses}
 use Rattle.orders.proofs.Refusals.{first-clear, refused-once, refusal-once, given-once, not-both}
-use Rattle.sheet.proofs.Once.{good-once, wrong-once, good-not-wrong}
+use Rattle.sheet.proofs.Matching.{labelled-once}
+use Rattle.sheet.proofs.FirstWrong.{first-once}
 use Rattle.reader.specs.declared.Read.{Read}
 use Rattle.reader.specs.declared.Read.the-variants.{Rows, Refused}
 use Rattle.reader.specs.Promise.{says, Lent, reader-tests, written, ReadPromise, refused, wrong-line, read}
@@ -28,12 +29,12 @@ promise-once s m p q a b (refused j l e f) (wrong-line k c r e′ f′) = absurd
 promise-once s m p q a b (refused j l e f) (read t c r e′ f′) = absurd (first-clear (reader-tests s m) j l c)
 promise-once s m p q a b (wrong-line k c r e f) (refused j l e′ f′) = absurd (first-clear (reader-tests s m) j l c)
 promise-once s m p q a b (wrong-line k c r e f) (wrong-line k′ c′ r′ e′ f′) =
-    record { answer = e ∙ ap (λ x. refuses 10 (x ∷ [])) (wrong-once r r′) ∙ sym e′; memory = f ∙ sym f′ }
-promise-once s m p q a b (wrong-line k c r e f) (read t c′ r′ e′ f′) = good-not-wrong r′ r
+    record { answer = e ∙ ap (λ x. refuses 10 (x ∷ [])) (first-once s k k′ r r′) ∙ sym e′; memory = f ∙ sym f′ }
+promise-once s m p q a b (wrong-line k c r e f) (read t c′ r′ e′ f′) = absurd (r .no-sheet t r′)
 promise-once s m p q a b (read t c r e f) (refused j l e′ f′) = absurd (first-clear (reader-tests s m) j l c)
-promise-once s m p q a b (read t c r e f) (wrong-line k c′ r′ e′ f′) = good-not-wrong r r′
+promise-once s m p q a b (read t c r e f) (wrong-line k c′ r′ e′ f′) = absurd (r′ .no-sheet t r)
 promise-once s m p q a b (read t c r e f) (read t′ c′ r′ e′ f′) =
-    let h : t ≡ t′ = good-once r r′ in
+    let h : t ≡ t′ = labelled-once r r′ in
     record {
       answer = e ∙ ap (λ x. gives (length (x .row-labels))) h ∙ sym e′;
       memory = f ∙ ap (λ x. written x m) h ∙ sym f′;

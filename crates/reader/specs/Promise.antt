@@ -8,8 +8,8 @@ use Rattle.theory.specs.Limits.{row-limit}
 use Rattle.orders.specs.Refusals.{Said, gives, refuses, refusal, Test, _given-when_, First, Clear, Slice, _wanted_, WrongLength}
 use Rattle.sheet.specs.Text.{over}
 use Rattle.sheet.specs.Labels.{width, slots}
-use Rattle.sheet.specs.Sheet.{Labelled}
-use Rattle.sheet.specs.Reading.{start, good, Reads, TooLong, WrongLine}
+use Rattle.sheet.specs.Sheet.{Labelled, IsSheet, TooLong}
+use Rattle.sheet.specs.FirstWrong.{FirstWrong}
 use Rattle.reader.specs.declared.Read.{Read}
 use Rattle.reader.specs.declared.Read.the-variants.{Rows, Refused}
 
@@ -54,10 +54,9 @@ written t m =
     }
 
 -- The sheet s, what was lent at the call, what is lent after it, and the answer. Either 2 or 9 applies: then the lower is returned. Or
--- neither does, and the lines are read: then 10 is returned with the number of the wrong line; or, where no line is wrong, N, with
--- the table and the labels written. With a refusal "each lent buffer then holds what it held at the call".
+-- neither does: then 10 is returned with the number of the first wrong line; or, where the bytes are the sheet of a labelled table, N,
+-- with that table and its labels written. With a refusal "each lent buffer then holds what it held at the call".
 pub data ReadPromise (s : List ℕ) (m m′ : Lent) (a : Said ℕ) : Type 0 where
   refused : (k : ℕ) → First (reader-tests s m) k → a ≡ refuses k [] → m′ ≡ m → ReadPromise s m m′ a
-  wrong-line : (k : ℕ) → Clear (reader-tests s m) → WrongLine s k → a ≡ refuses 10 (k ∷ []) → m′ ≡ m → ReadPromise s m m′ a
-  read : (t : Labelled) → Clear (reader-tests s m) → Reads start 1 s (good t) → a ≡ gives (length (t .row-labels)) → m′ ≡ written t m
-      → ReadPromise s m m′ a
+  wrong-line : (k : ℕ) → Clear (reader-tests s m) → FirstWrong s k → a ≡ refuses 10 (k ∷ []) → m′ ≡ m → ReadPromise s m m′ a
+  read : (t : Labelled) → Clear (reader-tests s m) → IsSheet t s → a ≡ gives (length (t .row-labels)) → m′ ≡ written t m → ReadPromise s m m′ a

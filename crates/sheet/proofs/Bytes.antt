@@ -14,9 +14,6 @@ pub cond-by : {A : Type 0} (t : Bool) {a b c d : A} → (t ≡ true → a ≡ c)
 cond-by true p q = p refl
 cond-by false p q = q refl
 
-pub clash {ℓ} : {X : Type ℓ} {t : Bool} → t ≡ true → t ≡ false → X
-clash p q = let z : _≡_ {A = ℕ} 0 1 = cc in absurd (omega arith)
-
 -- the bytes of two texts one after the other are those of each
 pub each-append : (P : ℕ → Type 0) (a b : List ℕ) → Each P a → Each P b → Each P (a ++ b)
 each-append P [] b p q k h = q k (omega arith)

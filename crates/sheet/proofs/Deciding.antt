@@ -14,14 +14,14 @@ use lib.ListN.{length, getD, drop, length-append}
 use Rattle.theory.specs.Limits.{row-limit, order-limit}
 use Rattle.theory.specs.Table.{Order}
 use Rattle.theory.proofs.Signed.{signed as signs}
-use Rattle.sheet.specs.Text.{Each, feed, blank, minus, text, signed, rowsHead, colsHead, ordersHead}
+use Rattle.sheet.specs.Text.{Each, feed, blank, minus, text, signed, rowsHead, colsHead, ordersHead, Digit}
 use Rattle.sheet.specs.Labels.{LetterOrDigit, digit, capital, small, width, Form, New}
 use Rattle.sheet.specs.Sheet.{Labelled, orderText, IsSheet}
 use Rattle.sheet.specs.Reading.{Ended, Section, opening, of-rows, of-cols, of-orders, State, start, Heading, After, heading}
 use Rattle.sheet.specs.Reading.{row-label, col-label, order-line, begun, withRow, withCol, withOrder, tableOf, Outcome, good}
 use Rattle.sheet.specs.Reading.{wrong, Reads, done, short, unfit, next}
 use Rattle.sheet.specs.FirstWrong.{FirstWrong}
-use Rattle.sheet.proofs.Numbers.{Digit, text-digits, text-some, valueFrom, value-text}
+use Rattle.sheet.proofs.Numbers.{text-digits, text-some, valueFrom, value-text}
 use Rattle.sheet.proofs.Slots.{letter-low, letter-gap, letter-gap-2, letter-high}
 use Rattle.sheet.proofs.Lines.{Unbroken, Cut, unbroken, broken, cut, rank, SameOrder}
 use Rattle.sheet.proofs.Matching.{read-is-written}

@@ -8,13 +8,13 @@ use native.Mathlib.Decide.{ℕ-discrete}
 use lib.ListN.{length, getD, length-append}
 use Rattle.theory.specs.Limits.{row-limit}
 use Rattle.theory.proofs.Pigeonhole.{exists, crowded}
-use Rattle.sheet.specs.Text.{text, rowsHead, colsHead, ordersHead}
+use Rattle.sheet.specs.Text.{text, rowsHead, colsHead, ordersHead, Digit}
 use Rattle.sheet.specs.Labels.{LetterOrDigit, digit, Form, New, Labels}
 use Rattle.sheet.specs.Sheet.{presentCount, sheetLines}
 use Rattle.sheet.specs.Reading.{of-orders, State, start, heading, tableOf}
 use Rattle.sheet.specs.FirstWrong.{CanStand}
 use Rattle.sheet.proofs.Bytes.{each-weak}
-use Rattle.sheet.proofs.Numbers.{Digit, text-digits, text-some, text-once, text-within}
+use Rattle.sheet.proofs.Numbers.{text-digits, text-some, text-once, text-within}
 use Rattle.sheet.proofs.Slots.{labels-none, labels-more, length-more}
 use Rattle.sheet.proofs.Runs.{Run, none, then, run-append, run-split}
 use Rattle.sheet.proofs.Matching.{inRows, inCols, inOrders, Stage, at-start, in-rows, in-cols, in-orders, run-stage, rendered}

@@ -10,12 +10,12 @@ use lib.Dec.{T, eqb, T-not}
 use lib.IntN.{ℤ, pos, negsuc}
 use lib.ListN.{length, getD, length-append}
 use Rattle.theory.proofs.Search.{all, all-told}
-use Rattle.sheet.specs.Text.{Each, feed, blank, minus, text, signed, rowsHead, colsHead, ordersHead}
+use Rattle.sheet.specs.Text.{Each, feed, blank, minus, text, signed, rowsHead, colsHead, ordersHead, Digit, NoDigit}
 use Rattle.sheet.specs.Labels.{Form}
 use Rattle.sheet.specs.Sheet.{orderText}
 use Rattle.sheet.specs.Reading.{Ended, Section, opening, of-rows, of-cols, of-orders, Heading}
 use Rattle.sheet.proofs.Bytes.{front-once, each-weak, each-append, each-cons, each-right, append-cancel}
-use Rattle.sheet.proofs.Numbers.{Digit, NoDigit, text-digits, text-once, number-once}
+use Rattle.sheet.proofs.Numbers.{text-digits, text-once, number-once}
 use Rattle.sheet.proofs.Slots.{letter-low}
 
 -- every byte is not a line feed

@@ -17,7 +17,8 @@ use Rattle.sheet.specs.Reading.{good, tableOf, Reads, done}
 use Rattle.sheet.proofs.Slots.{labels-none, labels-more, labels-new, labels-form, length-more}
 use Rattle.sheet.proofs.Lines.{rank}
 use Rattle.sheet.proofs.Orders.{absent-is, absent-not, order-present, lines-append, lines-absent, lines-one, count-append}
-use Rattle.sheet.proofs.Orders.{count-absent, count-one, count-le, place-row, place-col, cell, row-inside, col-inside, row-col}
+use Rattle.orders.proofs.Places.{cell}
+use Rattle.sheet.proofs.Orders.{count-absent, count-one, count-le, place-row, place-col, row-inside, col-inside, row-col}
 use Rattle.sheet.proofs.Orders.{entries-none, entries-append, entries-right, entries-absent, entries-one}
 use Rattle.sheet.proofs.Once.{good-once}
 use Rattle.sheet.proofs.Runs.{Run, none, then, run-append, run-reads, Halt, at-end, at-fault, Course, course}
@@ -355,3 +356,6 @@ written-is-read t w =
 pub sheet-once : (a b : Labelled) → Stands a → Stands b → sheetOf a ≡ sheetOf b → a ≡ b
 sheet-once a b p q e =
     good-once (written-is-read a p) (subst⁻¹ (λ x. Reads start 1 x (good b)) e (written-is-read b q))
+
+pub labelled-once : {s : List ℕ} {a b : Labelled} → IsSheet a s → IsSheet b s → a ≡ b
+labelled-once {a = a} {b = b} p q = sheet-once a b (p .stands) (q .stands) (sym (p .is) ∙ q .is)

@@ -9,7 +9,7 @@ use borrow.Author.Tests.{ltb-false, lt-ltb, le-ltb}
 use lib.Dec.{ltb}
 use lib.ListN.{length, getD, length-append, List·getD-append}
 use Rattle.sheet.specs.Text.{Each, digits, text}
-pub use Rattle.sheet.specs.Text.{Digit, NoDigit}
+use Rattle.sheet.specs.Text.{Digit, NoDigit}
 use Rattle.sheet.proofs.Bytes.{cond-by, each-append, each-one, front-once}
 
 -- more fuel than the number changes nothing

@@ -13,10 +13,9 @@ use lib.Seq.{getD-append-add}
 use Rattle.theory.specs.Limits.{order-limit}
 use Rattle.theory.specs.Table.{absent, Present, Order, Entries}
 use Rattle.theory.proofs.Signed.{signed}
-pub use Rattle.orders.proofs.Places.{cell}
 use Rattle.sheet.specs.Text.{text, ended, rowsHead, colsHead, ordersHead}
 use Rattle.sheet.specs.Sheet.{Labelled, isAbsent, presentCount, orderText, endedLines, orderLines, headed, countedLines, sheetOf}
-use Rattle.sheet.proofs.Bytes.{clash}
+use Rattle.orders.proofs.Entries.{clash}
 
 -- label lines of two lists one after the other
 pub ended-append : (a b : List (List ℕ)) → endedLines (a ++ b) ≡ endedLines a ++ endedLines b
@@ -50,11 +49,11 @@ sheet-bytes t =
 
 -- the test of an absent entry
 pub absent-is : (v : ℤ) → isAbsent v ≡ true → v ≡ absent
-absent-is (pos n) e = clash {t = false} e refl
+absent-is (pos n) e = clash {b = false} e refl
 absent-is (negsuc n) e = ap negsuc (eqb-true n 32767 e)
 
 pub absent-not : (v : ℤ) → isAbsent v ≡ false → Present v
-absent-not v e p = clash {t = isAbsent v} (ap isAbsent p) e
+absent-not v e p = clash {b = isAbsent v} (ap isAbsent p) e
 
 pub order-present : (v : ℤ) → Order order-limit v → isAbsent v ≡ false
 order-present (pos n) o = refl

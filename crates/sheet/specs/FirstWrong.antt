@@ -1,5 +1,5 @@
--- Which line of a sheet is wrong, said of whole sheets. It is the line that the reading line by line reports, and there is one such line
--- at most (`wrong-is-first`, `first-is-wrong` and `first-once` of proofs/FirstWrong).
+-- Which line of a sheet is wrong, said of whole sheets. There is one such line at most (`first-once`), and every byte string is a sheet
+-- or has one (`sheet-or-wrong`).
 use mathlib.Core.Path.{_≡_}
 use mathlib.Core.List.{List, [], _∷_, _++_}
 use Prim.Native.Nat.{ℕ, _+_, _*_, _≤_}

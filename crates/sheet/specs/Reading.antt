@@ -1,12 +1,12 @@
--- The reading of a sheet, line by line. "The first line that can't stand after those before it is wrong, and its number (from 1)
--- is reported; a missing line, an unended line and a line after the last are wrong in the place where they stand."
+-- The reading of a sheet, line by line, as the reader goes. No promise is stated by it: that it comes to the same as `IsSheet` and
+-- `FirstWrong`, which speak of whole sheets, is proved (`read-is-written`, `written-is-read`, `wrong-is-first`, `first-is-wrong`).
 use mathlib.Core.Path.{_≡_}
 use mathlib.Core.Logic.{_≢_}
 use mathlib.Core.List.{List, [], _∷_, _++_}
 use Prim.Native.Nat.{ℕ, suc, _+_, _-_, _*_, _≤_, _<_}
 use lib.IntN.{ℤ}
 use lib.ListN.{length, replicate}
-use Rattle.theory.specs.Limits.{row-limit, order-limit, sheet-limit}
+use Rattle.theory.specs.Limits.{row-limit, order-limit}
 use Rattle.theory.specs.Table.{absent, Order}
 use Rattle.sheet.specs.Text.{feed, text, Each, rowsHead, colsHead, ordersHead}
 use Rattle.sheet.specs.Labels.{Form, New}
@@ -137,11 +137,6 @@ pub data Reads : State → ℕ → List ℕ → Outcome → Type 0 where
   next : {st : State} {k : ℕ} {s : List ℕ} {o : Outcome} (l rest : List ℕ) (st′ : State) → Ended s l rest → After st l st′ → Reads st′ (suc k) rest o
       → Reads st k s o
 
--- ---- the refusals of a sheet
--- 9: "a sheet is longer than 12,288 bytes"
-abbrev pub TooLong : List ℕ → Type 0
-TooLong s = sheet-limit < length s
-
--- 10: "a line of a sheet is wrong", "and its number (from 1) is reported"
+-- the line with the number k is reported
 abbrev pub WrongLine : List ℕ → ℕ → Type 0
 WrongLine s k = Reads start 1 s (wrong k)

@@ -2,11 +2,11 @@
 use mathlib.Core.Path.{_≡_}
 use mathlib.Core.Bool.{Bool, false, cond}
 use mathlib.Core.List.{List, [], _∷_, _++_}
-use Prim.Native.Nat.{ℕ, suc, _+_, _*_, _/_, _%_, _≤_}
+use Prim.Native.Nat.{ℕ, suc, _+_, _*_, _/_, _%_, _≤_, _<_}
 use lib.Dec.{eqb}
 use lib.IntN.{ℤ, pos, negsuc}
 use lib.ListN.{length}
-use Rattle.theory.specs.Limits.{row-limit, order-limit}
+use Rattle.theory.specs.Limits.{row-limit, order-limit, sheet-limit}
 use Rattle.theory.specs.Table.{absent, Entries}
 use Rattle.sheet.specs.Text.{blank, text, signed, ended, rowsHead, colsHead, ordersHead}
 use Rattle.sheet.specs.Labels.{Labels}
@@ -80,3 +80,7 @@ sheetOf t = endedLines (sheetLines (presentCount (t .entries)) t)
 pub record IsSheet (t : Labelled) (s : List ℕ) : Type 0 where
   pub stands : Stands t
   pub is : s ≡ sheetOf t
+
+-- 9: "a sheet is longer than 12,288 bytes"
+abbrev pub TooLong : List ℕ → Type 0
+TooLong s = sheet-limit < length s

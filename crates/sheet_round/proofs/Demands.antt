@@ -1,5 +1,5 @@
 -- The definitions of sheets and the promises of reader and writer meet the customer's demands. Assumes nothing.
-use mathlib.Core.Path.{_≡_, sym, ap, _∙_}
+use mathlib.Core.Path.{_≡_, refl, sym, ap, _∙_}
 use mathlib.Core.Logic.{inl, inr}
 use mathlib.Core.List.{List, [], _∷_}
 use Prim.Native.Nat.{ℕ}
@@ -8,8 +8,9 @@ use lib.ListN.{length}
 use Rattle.orders.specs.Refusals.{Said, refuses, numbers, Rising, due}
 use Rattle.orders.proofs.Refusals.{first-once, first-clear, first-lowest, not-both}
 use Rattle.sheet.specs.Sheet.{sheetOf}
-use Rattle.sheet.proofs.Once.{good-once, wrong-once, good-not-wrong}
-use Rattle.sheet.proofs.Matching.{read-is-written, written-is-read, sheet-once}
+use Rattle.sheet.proofs.Matching.{labelled-once}
+use Rattle.sheet.proofs.FirstWrong as wrong
+use Rattle.sheet.proofs.Deciding.{sheet-or-wrong}
 use Rattle.reader.specs.Promise.{Lent, reader-tests, ReadPromise, refused, wrong-line, read}
 use Rattle.reader.proofs.Unique.{read-once}
 use Rattle.writer.specs.Promise as writing
@@ -32,8 +33,8 @@ module _ (s : List ℕ) (m m′ : Lent) (a : Said ℕ) where
   reader-refused k vs (inl d) (read t c r e kept) = absurd (first-clear (reader-tests s m) k (d .0) c)
   reader-refused k vs (inr (line, clear, w, ten, one)) (refused j l e kept) = absurd (first-clear (reader-tests s m) j l clear)
   reader-refused k vs (inr (line, clear, w, ten, one)) (wrong-line j c v e kept) =
-      (rw (ten, one) (e ∙ ap (λ (i : ℕ). refuses 10 (i ∷ [])) (wrong-once v w)), kept)
-  reader-refused k vs (inr (line, clear, w, ten, one)) (read t c r e kept) = good-not-wrong r w
+      (rw (ten, one) (e ∙ ap (λ (i : ℕ). refuses 10 (i ∷ [])) (wrong.first-once s j line v w)), kept)
+  reader-refused k vs (inr (line, clear, w, ten, one)) (read t c r e kept) = absurd (w .no-sheet t r)
 
   reader-only-due : (k : ℕ) (vs : List ℕ) → ReadPromise s m m′ a → a ≡ refuses k vs → reader-due s m k vs
   reader-only-due k vs (refused j l e kept) f =
@@ -83,11 +84,13 @@ sheet-calls =
 pub one-to-one : OneToOne
 one-to-one =
     record {
-      read-as-written = written-is-read;
+      has-sheet = λ t st. record { stands = st; is = refl };
+      one-sheet = λ t s r p q. p .is ∙ sym (q .is);
       never-too-long = sheet-fits;
-      one-table = sheet-once;
-      written-as-read = λ s t r. let w = read-is-written s t r in (w .stands, w .is);
-      one-reading = λ s t u. good-once;
+      one-table = λ s t u. labelled-once;
+      sheet-or-wrong = sheet-or-wrong;
+      not-both = λ s t k p f. f .no-sheet t p;
+      one-line = wrong.first-once;
       read-back = λ h o o′ k m m′ a p w q. let b = read-back h o o′ k p m m′ a w q in (b .table, b .is-handed, b .answer, b .memory);
       write-back = λ s m m′ n o o′ a p f q. let b = write-back s m m′ n p o o′ a f q in (b .answer, b .memory);
     }

@@ -13,9 +13,8 @@ use Rattle.orders.proofs.Refusals.{given-once, not-both, right-lengths}
 use Rattle.handed.proofs.Basics.{in-size, sized, entries-known}
 use Rattle.sheet.specs.Text.{over}
 use Rattle.sheet.specs.Labels.{width, Labels, slots}
-use Rattle.sheet.specs.Sheet.{Labelled, Stands, sheetOf, IsSheet}
+use Rattle.sheet.specs.Sheet.{Labelled, Stands, sheetOf}
 use Rattle.sheet.proofs.Slots.{slots-length, labels-short}
-use Rattle.sheet.proofs.Matching.{read-is-written, written-is-read}
 use Rattle.reader.specs.Promise as reading
 use Rattle.reader.specs.Promise.{Lent, written, ReadPromise, read}
 use Rattle.reader.proofs.PromiseLaws.{all-clear as read-clear}
@@ -73,7 +72,7 @@ read-back h o o′ k (wrote t c l g e) m m′ a w p =
     let q : take k o′ ≡ sheetOf t =
     ap (λ x. take k x) e ∙ take-at (sheetOf t) (drop (length (sheetOf t)) o) k (sym (given-once k (length (sheetOf t)) g)) in
     let u = reader.promise-once (sheetOf t) m m′ (written t m) a (gives (length (t .row-labels))) (subst (λ x. ReadPromise x m m′ a) q p)
-    (read t (read-clear (sheetOf t) m w (sheet-fits t st)) (written-is-read t st) refl refl) in
+    (read t (read-clear (sheetOf t) m w (sheet-fits t st)) (record { stands = st; is = refl }) refl refl) in
     record { table = t; is-handed = l; answer = u .answer ∙ ap gives (model-rows h o t c l); memory = u .memory }
 
 -- the front of a buffer over which x was written is x
@@ -91,8 +90,7 @@ pub write-back : (s : List ℕ) (m m′ : Lent) (n : ℕ) → ReadPromise s m m�
     → WriteBack s o o′ a
 write-back s m m′ n (reading.refused k l f e) o o′ a g p = not-both n k [] f
 write-back s m m′ n (reading.wrong-line k c r f e) o o′ a g p = not-both n 10 (k ∷ []) f
-write-back s m m′ n (read t c r f e) o o′ a g p =
-    let x : IsSheet t s = read-is-written s t r in
+write-back s m m′ n (read t c x f e) o o′ a g p =
     let st : Stands t = x .stands in
     let q : n ≡ length (t .row-labels) = given-once n (length (t .row-labels)) f in
     let tl : length (t .entries) ≡ n * n = st .square ∙ ap (λ y. y * y) (sym q) in

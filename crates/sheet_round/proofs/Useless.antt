@@ -18,7 +18,7 @@ use Rattle.sheet.specs.Labels.{LetterOrDigit, small, width, Form, Labels, slots
 use Rattle.sheet.specs.Sheet.{Labelled, Stands, isAbsent, sheetOf}
 use Rattle.sheet.proofs.Slots.{slots-length, slots-once, labels-short}
 use Rattle.sheet.proofs.Orders.{entries-one}
-use Rattle.sheet.proofs.Matching.{written-is-read, sheet-once}
+use Rattle.sheet.proofs.Matching.{sheet-once}
 use Rattle.reader.specs.Promise as reading
 use Rattle.reader.specs.Promise.{Lent, lent, written, ReadPromise, read}
 use Rattle.reader.proofs.PromiseLaws.{all-clear as read-clear}
@@ -36,7 +36,7 @@ read-only : (t : Labelled) → Stands t → (m m′ : Lent) (a : Said ℕ) → r
     → reader.Same a (gives (length (t .row-labels))) m′ (written t m)
 read-only t st m m′ a w p =
     reader.promise-once (sheetOf t) m m′ (written t m) a (gives (length (t .row-labels))) p
-    (read t (read-clear (sheetOf t) m w (sheet-fits t st)) (written-is-read t st) refl refl)
+    (read t (read-clear (sheetOf t) m w (sheet-fits t st)) (record { stands = st; is = refl }) refl refl)
 
 -- the call of the writer that hands it the table t
 abbrev pub handing : Labelled → Model

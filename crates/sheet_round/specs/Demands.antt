@@ -9,8 +9,8 @@ use Rattle.theory.specs.Limits.{sheet-limit}
 use Rattle.orders.specs.Refusals.{Said, gives, First, Clear, Applies, due, Proper}
 use Rattle.sheet.specs.Text.{over}
 use Rattle.sheet.specs.Labels.{width}
-use Rattle.sheet.specs.Sheet.{Labelled, Stands, sheetOf}
-use Rattle.sheet.specs.Reading.{start, good, Reads, WrongLine}
+use Rattle.sheet.specs.Sheet.{Labelled, Stands, sheetOf, IsSheet}
+use Rattle.sheet.specs.FirstWrong.{FirstWrong}
 use Rattle.reader.specs.Promise as reading
 use Rattle.reader.specs.Promise.{Lent, written, reader-tests, ReadPromise}
 use Rattle.reader.specs.declared.Read.{Read}
@@ -21,7 +21,7 @@ use Rattle.writer.specs.declared.Written.{Written}
 -- the refusal that the reader has to give: the first of 2 and 9 that applies, or else 10 with the number of the wrong line
 abbrev pub reader-due : List ℕ → Lent → ℕ → List ℕ → Type 0
 reader-due s m k values =
-    due (reader-tests s m) k values ⊎ ((line : ℕ) × Clear (reader-tests s m) × WrongLine s line × (k ≡ 10) × (values ≡ line ∷ []))
+    due (reader-tests s m) k values ⊎ ((line : ℕ) × Clear (reader-tests s m) × FirstWrong s line × (k ≡ 10) × (values ≡ line ∷ []))
 
 -- Demand 1 of the calls on sheets: "Public calls test size, lengths, orders and lists themselves, give the numbered refusal, and then
 -- leave each lent buffer holding what it held before."
@@ -34,15 +34,17 @@ pub record SheetCalls : Type 0 where
 
 -- Demand 2: "Sheets and labelled tables match one to one."
 pub record OneToOne : Type 0 where
-  -- every labelled table within the limits has a sheet, which is read as that table and is never too long,
-  pub read-as-written : (t : Labelled) → Stands t → Reads start 1 (sheetOf t) (good t)
+  -- every labelled table within the limits has one sheet, which is never too long,
+  pub has-sheet : (t : Labelled) → Stands t → IsSheet t (sheetOf t)
+  pub one-sheet : (t : Labelled) (s r : List ℕ) → IsSheet t s → IsSheet t r → s ≡ r
   pub never-too-long : (t : Labelled) → Stands t → length (sheetOf t) ≤ sheet-limit
   -- and no other table has it
-  pub one-table : (t u : Labelled) → Stands t → Stands u → sheetOf t ≡ sheetOf u → t ≡ u
-  -- every sheet that is read as a labelled table is the sheet of that table, byte for byte, and the table is within the limits,
-  pub written-as-read : (s : List ℕ) (t : Labelled) → Reads start 1 s (good t) → Stands t × (s ≡ sheetOf t)
-  -- and it is read as no other
-  pub one-reading : (s : List ℕ) (t u : Labelled) → Reads start 1 s (good t) → Reads start 1 s (good u) → t ≡ u
+  pub one-table : (s : List ℕ) (t u : Labelled) → IsSheet t s → IsSheet u s → t ≡ u
+  -- bytes are the sheet of a labelled table or have a first wrong line, and never both
+  pub sheet-or-wrong : (s : List ℕ) → ((t : Labelled) × IsSheet t s) ⊎ ((k : ℕ) × FirstWrong s k)
+  pub not-both : (s : List ℕ) (t : Labelled) (k : ℕ) → IsSheet t s → FirstWrong s k → ⊥
+  -- and that line is one
+  pub one-line : (s : List ℕ) (j k : ℕ) → FirstWrong s j → FirstWrong s k → j ≡ k
   -- the same of the calls: what the writer wrote for a table, the reader reads back as that table
   pub read-back : (h : Model) (o o′ : List ℕ) (k : ℕ) (m m′ : Lent) (a : Said ℕ) → WritePromise h o o′ (gives k) → reading.Wanted m
       → ReadPromise (take k o′) m m′ a → (t : Labelled) × Labelling h t × (a ≡ gives (h .n)) × (m′ ≡ written t m)

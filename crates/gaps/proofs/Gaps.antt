@@ -10,8 +10,8 @@ use mir.Val.{SFits, toZ, ofZ}
 use mir.Facts.{toZ-ofZ}
 use Rattle.theory.specs.Table.{absent, Present}
 use Rattle.theory.proofs.Signed.{plus, signed, mag-up}
-use Rattle.growth.specs.Steps.{no-gap, Reckonable, Nearer, Lesser}
-use Rattle.growth.specs.declared.LeastGap.{LeastGap}
+use Rattle.gaps.specs.Steps.{no-gap, Reckonable, Nearer, Lesser}
+use Rattle.gaps.specs.declared.LeastGap.{LeastGap}
 use Rattle.orders.specs.Places.{ceiling}
 
 -- ---- head less order and addition; r is what the order lacks of the head

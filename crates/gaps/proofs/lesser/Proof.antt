@@ -1,7 +1,7 @@
 -- The lesser of two gaps. Assumes nothing.
-use Rattle.growth.proofs.Gaps.{lesser-kept, lesser-taken}
-use Rattle.growth.proofs.lesser.Statement.{statement}
-use Rattle.growth.proofs.lesser.Tie as tie
+use Rattle.gaps.proofs.Gaps.{lesser-kept, lesser-taken}
+use Rattle.gaps.proofs.lesser.Statement.{statement}
+use Rattle.gaps.proofs.lesser.Tie as tie
 
 returns : tie.Need-returns
 returns c = lesser-kept _ _ _ (c .if1 .taken)

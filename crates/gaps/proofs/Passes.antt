@@ -1,4 +1,4 @@
--- The passes over rows and columns, one place after the other: looking for the least gap, rising, the first heads. Assumes nothing.
+-- The passes over rows and columns, one place after the other: looking for the least gap, rising. Assumes nothing.
 use mathlib.Core.Path.{_≡_, refl, _∙_}
 use mathlib.Core.Bool.{Bool, true, false}
 use mathlib.Core.List.{List}
@@ -14,16 +14,13 @@ use mir.Val.{SFits}
 use Rattle.theory.specs.Lists.{nums, ints, flags}
 use Rattle.theory.specs.Limits.{row-limit, order-limit}
 use Rattle.theory.specs.Table.{entry}
-use Rattle.theory.specs.Canon.{Head, NoTransversal}
-use Rattle.theory.proofs.Pigeonhole.{onto}
 use Rattle.theory.proofs.Signed.{plus, signed, mag-up, mag-dn}
-use Rattle.orders.specs.Places.{ceiling, TopOf}
-use Rattle.orders.specs.declared.Top.{Top}
+use Rattle.orders.specs.Places.{ceiling}
 use Rattle.orders.proofs.Entries.{clash}
 use Rattle.orders.proofs.Stores.{Put, after, put-nums, put-ints}
 use Rattle.orders.specs.Held.{Long}
-use Rattle.growth.specs.declared.LeastGap.{LeastGap}
-use Rattle.growth.specs.Steps.{no-gap, Nearer, Lesser, LookedAt, share, Narrowed, Rising, RisenBy}
+use Rattle.gaps.specs.declared.LeastGap.{LeastGap}
+use Rattle.gaps.specs.Steps.{no-gap, Nearer, Lesser, LookedAt, share, Narrowed, Rising, RisenBy}
 
 -- a head that is small enough fits
 pub head-fits : (h : ℤ) → mag h ≤ ceiling + order-limit → SFits w32 h
@@ -207,26 +204,3 @@ module _ {δ : ℕ} {tree reached : List Bool} {l : List ℕ} {h : List ℤ} {ga
 
         pg : Put (nums g′) (nums (set g′ k d)) k d
         pg = put-nums g′ k d (omega (arith, w .risen .long .2))
-
--- ---- the first heads
--- h has the heads of the first k columns
-pub record HeadsTo (t : List ℤ) (n k : ℕ) (l : List ℕ) (h : List ℤ) : Type 0 where
-  pub heads : (j : ℕ) → j < k → Head n (entry t n) (nums l) j (ints h j)
-  pub long : Long h
-
-pub heads-step : {t : List ℤ} {n k : ℕ} {l : List ℕ} {h : List ℤ} → HeadsTo t n k l h → k < row-limit → {r : Top} → TopOf t n l k r
-    → r .present ≡ true → HeadsTo t n (k + 1) l (set h k (r .head))
-heads-step {t} {n} {k} {l} {h} w small {r} top e =
-    record {
-      heads = λ j hj.
-          after (λ x y. Head n (entry t n) (nums l) x y) (put-ints h k (r .head) (omega (arith, w .long))) j (λ q. top .head e)
-          (λ ne. w .heads j (omega arith));
-      long = length-set h k (r .head) ∙ w .long;
-    }
-
--- a column with no order: a complete transversal would take one there
-pub no-head : {t : List ℤ} {n j : ℕ} {l : List ℕ} {r : Top} → TopOf t n l j r → j < n → r .present ≡ false
-    → NoTransversal n (entry t n)
-no-head {t} {n} {j} top hj e σ tr =
-    let (i, hi, q) = onto n σ (tr .apart) (tr .inside) j hj in
-    top .empty e i hi (rw q at (tr .present i hi))

@@ -7,8 +7,8 @@ use mir.Syntax.{w32}
 use mir.Val.{SFits}
 use mir.Facts.{toZ-ofZ}
 use Rattle.theory.proofs.Signed.{plus, signed, toZ-small, mag-up, mag-dn}
-use Rattle.growth.proofs.lift.Statement.{statement}
-use Rattle.growth.proofs.lift.Tie as tie
+use Rattle.gaps.proofs.lift.Statement.{statement}
+use Rattle.gaps.proofs.lift.Tie as tie
 
 -- the sum fits
 fits : (c : tie.Start) → SFits w32 (c .args .head +ℤ pos (c .args .rise))

@@ -2,9 +2,9 @@
 use mathlib.Core.Path.{_≡_}
 use lib.IntN.{pos, _+ℤ_}
 use mir.Facts.{toZ-ofZ}
-use Rattle.growth.proofs.Gaps.{gap-asks, gap-least, gap-is}
-use Rattle.growth.proofs.gap.Statement.{statement}
-use Rattle.growth.proofs.gap.Tie as tie
+use Rattle.gaps.proofs.Gaps.{gap-asks, gap-least, gap-is}
+use Rattle.gaps.proofs.gap.Statement.{statement}
+use Rattle.gaps.proofs.gap.Tie as tie
 
 excess-requires : tie.Need-excess-requires
 excess-requires c κs = rw (toZ-ofZ (c .fits .order), toZ-ofZ (c .fits .head)) (gap-asks _ _ _ (c .pre .0) (c .pre .1))

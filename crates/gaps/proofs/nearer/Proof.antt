@@ -2,9 +2,9 @@
 use native.Mathlib.Omega.{arith}
 use mir.Facts.{toZ-ofZ}
 use Rattle.orders.proofs.Entries.{absent-bits, present-bits}
-use Rattle.growth.proofs.Gaps.{gap-small, reckonable-read, nearer-none, nearer-kept, nearer-taken}
-use Rattle.growth.proofs.nearer.Statement.{statement}
-use Rattle.growth.proofs.nearer.Tie as tie
+use Rattle.gaps.proofs.Gaps.{gap-small, reckonable-read, nearer-none, nearer-kept, nearer-taken}
+use Rattle.gaps.proofs.nearer.Statement.{statement}
+use Rattle.gaps.proofs.nearer.Tie as tie
 
 returns : tie.Need-returns
 returns c = nearer-none _ _ _ _ _ _ (absent-bits _ (c .before .fits .order) (c .if1 .taken))

@@ -2,9 +2,9 @@
 use Prim.Native.Nat.{_<_}
 use native.Mathlib.Omega.{arith}
 use borrow.Author.Needs.{needs}
-use Rattle.growth.specs.Steps.{no-gap}
-use Rattle.growth.proofs.narrowed.Statement.{statement}
-use Rattle.growth.proofs.narrowed.Tie as tie
+use Rattle.gaps.specs.Steps.{no-gap}
+use Rattle.gaps.proofs.narrowed.Statement.{statement}
+use Rattle.gaps.proofs.narrowed.Tie as tie
 
 sub-result : tie.Need-sub-result
 sub-result c =

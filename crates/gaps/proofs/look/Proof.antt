@@ -8,9 +8,9 @@ use borrow.Author.Tests.{not-true, not-false}
 use mir.Syntax.{w16}
 use mir.Facts.{toZ-ofZ}
 use Rattle.theory.specs.Lists.{ints}
-use Rattle.growth.proofs.Passes.{Looking, head-fits, look-start, look-skip, look-take}
-use Rattle.growth.proofs.look.Statement.{statement}
-use Rattle.growth.proofs.look.Tie as tie
+use Rattle.gaps.proofs.Passes.{Looking, head-fits, look-start, look-skip, look-take}
+use Rattle.gaps.proofs.look.Statement.{statement}
+use Rattle.gaps.proofs.look.Tie as tie
 
 abbrev Inv-loop : tie.InvT-loop
 Inv-loop table n row additions heads reached gaps₀ givers₀ least₀ addition j₀ gaps givers least j =

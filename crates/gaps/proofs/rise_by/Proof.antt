@@ -5,9 +5,9 @@ use native.Mathlib.Omega.{arith}
 use borrow.Author.Needs.{needs, sfits-of}
 use mir.Facts.{toZ-ofZ}
 use Rattle.theory.specs.Lists.{ints}
-use Rattle.growth.proofs.Passes.{RisenTo, head-fits, rise-none, rise-start, rise-add, rise-head, rise-gap, rise-step}
-use Rattle.growth.proofs.rise_by.Statement.{statement}
-use Rattle.growth.proofs.rise_by.Tie as tie
+use Rattle.gaps.proofs.Passes.{RisenTo, head-fits, rise-none, rise-start, rise-add, rise-head, rise-gap, rise-step}
+use Rattle.gaps.proofs.rise_by.Statement.{statement}
+use Rattle.gaps.proofs.rise_by.Tie as tie
 
 abbrev Inv-loop : tie.InvT-loop
 Inv-loop n rise tree reached additions₀ heads₀ gaps₀ i₀ additions heads gaps i =

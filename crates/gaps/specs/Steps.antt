@@ -11,7 +11,7 @@ use Rattle.theory.specs.Lists.{nums, ints, flags}
 use Rattle.theory.specs.Table.{Present, entry}
 use Rattle.orders.specs.Places.{Square, ceiling}
 use Rattle.orders.specs.Held.{Long}
-use Rattle.growth.specs.declared.LeastGap.{LeastGap}
+use Rattle.gaps.specs.declared.LeastGap.{LeastGap}
 
 -- what stands for the gap of a column in which no row of the tree has an order; a gap is below it
 abbrev pub no-gap : ℕ

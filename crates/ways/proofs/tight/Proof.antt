@@ -4,9 +4,9 @@ use mir.Syntax.{w16, w32}
 use mir.Val.{SFits}
 use mir.Facts.{toZ-ofZ}
 use Rattle.theory.specs.Lists.{ints}
-use Rattle.stars.proofs.Tightness.{tight-maximum}
-use Rattle.stars.proofs.tight.Statement.{statement}
-use Rattle.stars.proofs.tight.Tie as tie
+use Rattle.ways.proofs.Tightness.{tight-maximum}
+use Rattle.ways.proofs.tight.Statement.{statement}
+use Rattle.ways.proofs.tight.Tie as tie
 
 place-requires : tie.Need-place-requires
 place-requires c κs = search needs

@@ -9,7 +9,7 @@ use Rattle.theory.specs.Table.{Present, entry}
 use Rattle.theory.specs.Canon.{Maximum}
 use Rattle.theory.proofs.Duality.{maximum-head, head-maximum}
 use Rattle.orders.specs.Tested.{Tells}
-use Rattle.stars.specs.Given.{Given}
+use Rattle.ways.specs.Given.{Given}
 
 -- a present order that, raised, is the head of its column is a column maximum, and the other way round
 pub tight-maximum : {t : List ℤ} {n : ℕ} {l : List ℕ} {h : List ℤ} → Given t n l h → (i j : ℕ) → i < n → j < n → {r : Bool}

@@ -2,11 +2,11 @@
 use mathlib.Core.Path.{refl}
 use Prim.Native.Nat.{_-_}
 use native.Mathlib.Omega.{arith}
-use Rattle.stars.specs.Search.{ways}
-use Rattle.stars.proofs.Joining.{queue-below}
-use Rattle.stars.proofs.Scanning.{SearchedTo, search-start, search-row, search-next, search-end}
-use Rattle.stars.proofs.find_ways.Statement.{statement}
-use Rattle.stars.proofs.find_ways.Tie as tie
+use Rattle.ways.specs.Search.{ways}
+use Rattle.ways.proofs.Joining.{queue-below}
+use Rattle.ways.proofs.Scanning.{SearchedTo, search-start, search-row, search-next, search-end}
+use Rattle.ways.proofs.find_ways.Statement.{statement}
+use Rattle.ways.proofs.find_ways.Tie as tie
 
 abbrev Inv-loop : tie.InvT-loop
 Inv-loop table n additions heads columns i next₀ step₀ queue₀ count₀ at₀ next step queue count at =

@@ -6,8 +6,8 @@ use borrow.Author.Count.{below-more}
 use Rattle.theory.specs.Lists.{nums}
 use Rattle.theory.specs.Table.{entry}
 use Rattle.theory.specs.Canon.{Maximum}
-use Rattle.stars.proofs.least_column.Statement.{statement}
-use Rattle.stars.proofs.least_column.Tie as tie
+use Rattle.ways.proofs.least_column.Statement.{statement}
+use Rattle.ways.proofs.least_column.Tie as tie
 
 abbrev Inv-loop : tie.InvT-loop
 Inv-loop table n additions heads rows eligible i own j₀ j =

@@ -12,8 +12,8 @@ use Rattle.theory.specs.Lists.{nums}
 use Rattle.theory.specs.Table.{entry}
 use Rattle.theory.specs.Canon.{Maximum}
 use Rattle.theory.specs.Paths.{Leads}
-use Rattle.stars.specs.Search.{Ways, LongWays, Joined, ScannedTo, RowsFoundIn, Scanned, Searched}
-use Rattle.stars.proofs.Joining.{queue-room, found-more, more-found, scanned-found, scanned-next, more-none, found-first}
+use Rattle.ways.specs.Search.{Ways, LongWays, Joined, ScannedTo, RowsFoundIn, Scanned, Searched}
+use Rattle.ways.proofs.Joining.{queue-room, found-more, more-found, scanned-found, scanned-next, more-none, found-first}
 use Rattle.orders.proofs.Stores.{Put, put-nums}
 use Rattle.orders.specs.Held.{Long}
 

@@ -3,10 +3,10 @@ use mathlib.Core.Path.{_≡_}
 use mathlib.Core.Logic.{inl, inr}
 use Prim.Native.Nat.{_-_, _≤_, _<_}
 use native.Mathlib.Omega.{arith}
-use Rattle.stars.specs.Search.{ways, Scanned}
-use Rattle.stars.proofs.Scanning.{join-room, scan-start, scan-next, scan-join}
-use Rattle.stars.proofs.scan.Statement.{statement}
-use Rattle.stars.proofs.scan.Tie as tie
+use Rattle.ways.specs.Search.{ways, Scanned}
+use Rattle.ways.proofs.Scanning.{join-room, scan-start, scan-next, scan-join}
+use Rattle.ways.proofs.scan.Statement.{statement}
+use Rattle.ways.proofs.scan.Tie as tie
 
 abbrev Inv-loop : tie.InvT-loop
 Inv-loop table n additions heads columns i m count next₀ step₀ queue₀ column found₀ k₀ next step queue found k =

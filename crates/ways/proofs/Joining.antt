@@ -8,7 +8,7 @@ use lib.IntN.{ℤ}
 use Rattle.theory.specs.Canon.{Maximum}
 use Rattle.theory.proofs.Pigeonhole.{onto, crowded}
 use Rattle.theory.specs.Paths.{Leads}
-use Rattle.stars.specs.Search.{RowsFound, MoreFound, ScannedTo}
+use Rattle.ways.specs.Search.{RowsFound, MoreFound, ScannedTo}
 use Rattle.orders.proofs.Stores.{Put}
 
 module _ {n : ℕ} {a : ℕ → ℕ → ℤ} {l : ℕ → ℕ} {i : ℕ} {σ next step queue : ℕ → ℕ} {count : ℕ} (w : RowsFound n a l i σ next step queue count) where

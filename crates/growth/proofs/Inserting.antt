@@ -20,8 +20,8 @@ use Rattle.orders.proofs.Places.{within}
 use Rattle.orders.proofs.Stores.{Put, put-nums, put-flags}
 use Rattle.orders.proofs.Flags.{unset, unset-fewer}
 use Rattle.orders.specs.Held.{Long, Startable, LeastBy}
-use Rattle.growth.specs.declared.LeastGap.{LeastGap}
-use Rattle.growth.specs.Steps.{no-gap, Joining, LookedAt, Rising, RisenBy}
+use Rattle.gaps.specs.declared.LeastGap.{LeastGap}
+use Rattle.gaps.specs.Steps.{no-gap, Joining, LookedAt, Rising, RisenBy}
 use Rattle.growth.specs.Growing.{insertion-rise, Tight, Free, Flipped, Ready, Meeting}
 use Rattle.growth.proofs.Growth.{by-flag, flag-set}
 use Rattle.growth.proofs.Insertion.{Search, Setting, search-start, search-look, search-stuck, search-rise, search-way, search-join}

@@ -14,7 +14,7 @@ use Rattle.theory.specs.Table.{Present, WithinLimit}
 use Rattle.theory.specs.Canon.{Transversal}
 use Rattle.theory.proofs.Pigeonhole.{choose, choose-yes, choose-no}
 use Rattle.theory.proofs.Signed.{plus, signed}
-use Rattle.growth.specs.Steps.{no-gap, Nearer, share, Narrowed}
+use Rattle.gaps.specs.Steps.{no-gap, Nearer, share, Narrowed}
 use Rattle.growth.specs.Growing.{insertion-rise, Tight, Growing, WayBack}
 use Rattle.growth.proofs.Growth.{by-flag, flag-set, flag-is, flag-clash, Tree, stuck, growth}
 use Rattle.orders.proofs.Stores.{Put, after}

@@ -1,6 +1,5 @@
-pub mod Gaps
 pub mod Growth
 pub mod Flipping
 pub mod Insertion
-pub mod Passes
+pub mod Heads
 pub mod Inserting

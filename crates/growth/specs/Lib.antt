@@ -1,4 +1,3 @@
 -- What growing from a start means, and what its steps leave to one another.
-pub mod Steps
 pub mod Growing
 pub mod Grown

@@ -1,6 +1,3 @@
-pub mod Tightness
-pub mod Joining
-pub mod Scanning
 pub mod Swapping
 pub mod Shifting
 pub mod Moving

@@ -12,9 +12,9 @@ use Rattle.theory.specs.Lists.{nums}
 use Rattle.theory.specs.Table.{entry}
 use Rattle.theory.specs.Canon.{Maximum}
 use Rattle.theory.proofs.Exchange.{exchange}
-use Rattle.stars.specs.Search.{LeastColumn, Unsearched, Searched}
+use Rattle.ways.specs.Search.{LeastColumn, Unsearched, Searched}
 use Rattle.stars.specs.Shift.{MarkArrays, MaximaIn, Swapped, Starred, Later}
-use Rattle.stars.proofs.Joining.{root-found, root-alone}
+use Rattle.ways.proofs.Joining.{root-found, root-alone}
 use Rattle.stars.proofs.Swapping.{swap-stores, swap-long-rows, swap-long-columns}
 use Rattle.stars.proofs.Shifting.{Shifting, of-marks, not-yet, shift-start, shift-less, shift-next, shift-maxima, shift-takes}
 use Rattle.orders.specs.Held.{Long}

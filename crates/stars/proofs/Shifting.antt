@@ -7,7 +7,7 @@ use native.Mathlib.Omega.{arith}
 use lib.IntN.{ℤ}
 use Rattle.theory.specs.Canon.{Maximum, OfMaxima}
 use Rattle.orders.specs.Places.{Marks}
-use Rattle.stars.specs.Search.{RowsFound}
+use Rattle.ways.specs.Search.{RowsFound}
 use Rattle.stars.proofs.Swapping.{Swap, one-row, by-row, swap-marks}
 
 -- marks that undo each other, each row's at a column maximum, are a complete transversal of column maxima

@@ -1,4 +1,2 @@
 -- What the contracts of this crate cite.
-pub mod Given
-pub mod Search
 pub mod Shift

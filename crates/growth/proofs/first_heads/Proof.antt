@@ -8,7 +8,7 @@ use mir.Syntax.{w32}
 use mir.Val.{SFits}
 use mir.Facts.{toZ-ofZ}
 use Rattle.orders.proofs.Entries.{clash}
-use Rattle.growth.proofs.Passes.{HeadsTo, heads-step, no-head}
+use Rattle.growth.proofs.Heads.{HeadsTo, heads-step, no-head}
 use Rattle.growth.proofs.first_heads.Statement.{statement}
 use Rattle.growth.proofs.first_heads.Tie as tie
 

@@ -3,7 +3,7 @@ use mathlib.Core.List.{List}
 use Prim.Native.Nat.{ℕ, _<_}
 use native.Mathlib.Omega.{arith}
 use Rattle.theory.specs.Lists.{flags}
-use Rattle.growth.specs.Steps.{no-gap}
+use Rattle.gaps.specs.Steps.{no-gap}
 use Rattle.growth.specs.Growing.{Ready}
 use Rattle.growth.proofs.Inserting.{Searching, begin, joining, closed, end-inside, rising, meeting, fewer, joined}
 use Rattle.growth.proofs.reach.Statement.{statement}

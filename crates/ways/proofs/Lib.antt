@@ -1,0 +1,3 @@
+pub mod Tightness
+pub mod Joining
+pub mod Scanning

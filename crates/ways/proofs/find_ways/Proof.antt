@@ -1,0 +1,68 @@
+-- The columns of the rows in the queue are scanned one after the other, until none is left. Assumes nothing.
+use mathlib.Core.Path.{refl}
+use Prim.Native.Nat.{_-_}
+use native.Mathlib.Omega.{arith}
+use Rattle.ways.specs.Search.{ways}
+use Rattle.ways.proofs.Joining.{queue-below}
+use Rattle.ways.proofs.Scanning.{SearchedTo, search-start, search-row, search-next, search-end}
+use Rattle.ways.proofs.find_ways.Statement.{statement}
+use Rattle.ways.proofs.find_ways.Tie as tie
+
+abbrev Inv-loop : tie.InvT-loop
+Inv-loop table n additions heads columns i next₀ step₀ queue₀ count₀ at₀ next step queue count at =
+    SearchedTo table n additions i columns at (ways next step queue count)
+
+abbrev μ-loop : tie.MeasureT-loop
+μ-loop table n additions heads columns i next₀ step₀ queue₀ count₀ at₀ next step queue count at = n - at
+
+join-requires : tie.Need-join-requires Inv-loop μ-loop
+join-requires c κs =
+    let p = c .before .before .before .pre in
+    (omega (arith, p .0 .square .small, p .1 .row), omega arith)
+
+loop-holds : tie.Need-loop-holds Inv-loop μ-loop
+loop-holds c =
+    let p = c .before .before .before .before .pre in
+    search-start (p .0 .square .small) (p .1 .row) (record { next = p .2 .long-next; step = p .2 .long-step; queue = refl }) (p .2 .none) refl
+    (c .join .ensures)
+
+mul-m : tie.Need-mul-m Inv-loop μ-loop
+mul-m c = omega (arith, queue-below (c .before .loop .inv .ways .ways), c .before .before .before .before .before .before .pre .0 .square .small)
+
+array-read-m : tie.Need-array-read-m Inv-loop μ-loop
+array-read-m c = omega (arith, queue-below (c .before .loop .inv .ways .ways), c .before .before .before .before .before .before .pre .0 .square .small)
+
+scan-requires : tie.Need-scan-requires Inv-loop μ-loop
+scan-requires c κs =
+    let p = c .before .before .before .before .before .before .before .before .before .pre in
+    let s = c .before .before .before .before .loop .inv in
+    let row = search-row s (omega arith) in
+    (p .0, p .1, row .0, row .1, s .ways)
+
+add-at : tie.Need-add-at Inv-loop μ-loop
+add-at c = omega arith
+
+loop-less : tie.Need-loop-less Inv-loop μ-loop
+loop-less c = omega (arith, queue-below (c .before .before .before .before .before .loop .inv .ways .ways))
+
+loop-again : tie.Need-loop-again Inv-loop μ-loop
+loop-again c = search-next (c .before .before .before .before .before .loop .inv) (omega arith) (c .scan .ensures)
+
+returns : tie.Need-returns Inv-loop μ-loop
+returns c = search-end (c .before .loop .inv) (omega arith)
+
+pub find-ways-spec : {M : Type 1} → statement M
+find-ways-spec =
+    tie.close
+    (tie.spec
+    Inv-loop
+    μ-loop
+    join-requires
+    loop-holds
+    mul-m
+    array-read-m
+    scan-requires
+    add-at
+    loop-less
+    loop-again
+    returns)

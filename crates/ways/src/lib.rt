@@ -1,0 +1,169 @@
+ghost use Prim.Native.Nat.{ℕ, _<_};
+ghost use Rattle.theory.specs.Limits.{row-limit};
+ghost use Rattle.theory.specs.Lists.{nums};
+ghost use Rattle.theory.specs.Table.{entry};
+ghost use Rattle.theory.specs.Canon.{Maximum};
+ghost use Rattle.orders.specs.Tested.{Tells};
+ghost use Rattle.ways.specs.Given.{Given};
+ghost use Rattle.ways.specs.Search.{LeastColumn, Columns, ways, Joined, RowsFoundIn, Scanned, Unsearched, Searched};
+use orders::ROWS;
+
+// Is the place of row i and column j a column maximum? It is when it is present and the raised order is the column's head. The
+// contract rules out an absent place, another row's addition and a test that always says one thing.
+fn tight(
+    table: &[i16],
+    n: usize,
+    additions: &[u32; ROWS],
+    heads: &[i32; ROWS],
+    i: usize,
+    j: usize,
+) -> bool
+    requires { ⌜ Given (now table) n (now additions) (now heads) × (i < n) × (j < n) ⌝ }
+    ensures { λ r. ⌜ Tells r (Maximum n (entry (now (table .entry)) n) (nums (now (additions .entry))) i j) ⌝ }
+{
+    let order = orders::place(table, n, i, j);
+    orders::tight(order, additions[i], heads[j])
+}
+
+// The least column before `own` in which row i has a maximum and whose marked row is eligible, or else `own`. The contract rules out
+// a column passed over, one that is no maximum and one whose row is not eligible.
+pub fn least_column(
+    table: &[i16],
+    n: usize,
+    additions: &[u32; ROWS],
+    heads: &[i32; ROWS],
+    rows: &[usize; ROWS],
+    eligible: &[usize; ROWS],
+    i: usize,
+    own: usize,
+) -> usize
+    requires { ⌜ Given (now table) n (now additions) (now heads) × (i < n) × (own < n) × ((j : ℕ) → j < n → nums (now rows) j < n) ⌝ }
+    ensures { λ r. ⌜ LeastColumn
+        n
+        (entry (now (table .entry)) n)
+        (nums (now (additions .entry)))
+        (nums (now (rows .entry)))
+        (nums (now (eligible .entry)))
+        i
+        own
+        r ⌝ }
+{
+    let mut j = 0;
+    while j < own {
+        let row = rows[j];
+        if eligible[row] != 0 {
+            if tight(table, n, additions, heads, i, j) {
+                return j;
+            }
+        }
+        j += 1;
+    }
+    own
+}
+
+// The rows from which the column of one row can be reached by column maxima are held as they are found: row queue[p] has step p + 1
+// and goes on to the column of row next, which was found before it. The row itself is the first; a row that is not found has step 0.
+
+// Row k joins, with a step to row m: the count of the rows found. Rules out another row's step or way changed.
+fn join(
+    k: usize,
+    m: usize,
+    count: usize,
+    next: &mut [usize; ROWS],
+    step: &mut [usize; ROWS],
+    queue: &mut [usize; ROWS],
+) -> usize
+    requires { ⌜ (k < row-limit) × (count < row-limit) ⌝ }
+    ensures { λ r. ⌜ Joined
+        (ways (now (next .entry)) (now (step .entry)) (now (queue .entry)) count)
+        k
+        m
+        (ways (now (next .exit)) (now (step .exit)) (now (queue .exit)) r) ⌝ }
+{
+    next[k] = m;
+    step[k] = count + 1;
+    queue[count] = k;
+    count + 1
+}
+
+// The rows after i that have a maximum in the column of row m join: the count of the rows found. The contract rules out a row left
+// out, a row before i, and a row whose way does not lead on to rows found before it.
+fn scan(
+    table: &[i16],
+    n: usize,
+    additions: &[u32; ROWS],
+    heads: &[i32; ROWS],
+    columns: &[usize; ROWS],
+    i: usize,
+    m: usize,
+    count: usize,
+    next: &mut [usize; ROWS],
+    step: &mut [usize; ROWS],
+    queue: &mut [usize; ROWS],
+) -> usize
+    requires { ⌜ Given (now table) n (now additions) (now heads)
+        × Columns n i (now columns)
+        × (m < n)
+        × (0 < nums (now step) m)
+        × RowsFoundIn (now table) n (now additions) i (now columns) (ways (now next) (now step) (now queue) count) ⌝ }
+    ensures { λ r. ⌜ Scanned
+        (now (table .entry))
+        n
+        (now (additions .entry))
+        i
+        (now (columns .entry))
+        m
+        n
+        (ways (now (next .entry)) (now (step .entry)) (now (queue .entry)) count)
+        (ways (now (next .exit)) (now (step .exit)) (now (queue .exit)) r) ⌝ }
+{
+    let column = columns[m];
+    let mut found = count;
+    let mut k = i + 1;
+    while k < n {
+        if step[k] == 0 {
+            if tight(table, n, additions, heads, k, column) {
+                found = join(k, m, found, &mut *next, &mut *step, &mut *queue);
+            }
+        }
+        k += 1;
+    }
+    found
+}
+
+// The rows from i on from which the column of row i can be reached: the columns of the rows found are scanned one after the other.
+// The contract rules out a search that stops while a column of a row found is not scanned.
+pub fn find_ways(
+    table: &[i16],
+    n: usize,
+    additions: &[u32; ROWS],
+    heads: &[i32; ROWS],
+    columns: &[usize; ROWS],
+    i: usize,
+    next: &mut [usize; ROWS],
+    step: &mut [usize; ROWS],
+)
+    requires { ⌜ Given (now table) n (now additions) (now heads) × Columns n i (now columns) × Unsearched n (now next) (now step) ⌝ }
+    ensures { λ r. ⌜ Searched (now (table .entry)) n (now (additions .entry)) i (now (columns .entry)) (now (next .exit)) (now (step .exit)) ⌝ }
+{
+    let mut queue = [0usize; ROWS];
+    let mut count = join(i, i, 0, &mut *next, &mut *step, &mut queue);
+    let mut at = 0;
+    while at < count {
+        let m = queue[at];
+        count = scan(
+            table,
+            n,
+            additions,
+            heads,
+            columns,
+            i,
+            m,
+            count,
+            &mut *next,
+            &mut *step,
+            &mut queue,
+        );
+        at += 1;
+    }
+}

@@ -19,12 +19,12 @@ use Rattle.sheet.proofs.Lines.{rank}
 use Rattle.sheet.proofs.Orders.{cell}
 use Rattle.fields.specs.Fields.{LineIs}
 use Rattle.fields.proofs.LineLaws.{line-of, line-only}
-use Rattle.reader.specs.declared.Section.{Section}
-use Rattle.reader.specs.declared.Section.the-variants.{Rows, Cols, Orders}
-use Rattle.reader.specs.declared.Fit.{Fit}
-use Rattle.reader.specs.declared.Fit.the-variants.{Next, Nothing as NoFit}
-use Rattle.reader.specs.declared.Kept.the-variants.{Line, Nothing as NoLine}
-use Rattle.reader.specs.Parts.{OrderIs, Holding, LabelKept, Store, store, Holds, InSection, LineKept, LineTaken, FrontKept}
+use Rattle.lines.specs.declared.Section.{Section}
+use Rattle.lines.specs.declared.Section.the-variants.{Rows, Cols, Orders}
+use Rattle.lines.specs.declared.Fit.{Fit}
+use Rattle.lines.specs.declared.Fit.the-variants.{Next, Nothing as NoFit}
+use Rattle.lines.specs.declared.Kept.the-variants.{Line, Nothing as NoLine}
+use Rattle.lines.specs.Parts.{OrderIs, Holding, LabelKept, Store, store, Holds, InSection, LineKept, LineTaken, FrontKept}
 
 -- parts of a run of one value
 pub take-replicate : {A : Type 0} (k n : ℕ) (a : A) → k ≤ n → take k (replicate n a) ≡ replicate k a

@@ -2,9 +2,9 @@
 use borrow.Author.Needs.{needs}
 use native.Mathlib.Omega.{arith}
 use Rattle.orders.proofs.Places.{square-small}
-use Rattle.reader.proofs.LineLaws.{heading-rows, heading-cols, heading-orders}
-use Rattle.reader.proofs.heading_count.Statement.{statement}
-use Rattle.reader.proofs.heading_count.Tie as tie
+use Rattle.lines.proofs.LineLaws.{heading-rows, heading-cols, heading-orders}
+use Rattle.lines.proofs.heading_count.Statement.{statement}
+use Rattle.lines.proofs.heading_count.Tie as tie
 
 enum-told : tie.Need-enum-told
 enum-told c = search needs

@@ -2,9 +2,9 @@
 use borrow.Author.Needs.{needs}
 use borrow.Author.Tests.{not-true, not-false}
 use native.Mathlib.Omega.{arith}
-use Rattle.reader.proofs.KeepLaws.{unkept-label, compared-label}
-use Rattle.reader.proofs.keep_label.Statement.{statement}
-use Rattle.reader.proofs.keep_label.Tie as tie
+use Rattle.lines.proofs.KeepLaws.{unkept-label, compared-label}
+use Rattle.lines.proofs.keep_label.Statement.{statement}
+use Rattle.lines.proofs.keep_label.Tie as tie
 
 label-stands-requires : tie.Need-label-stands-requires
 label-stands-requires c κs = search needs

@@ -13,9 +13,9 @@ use Rattle.fields.specs.Fields.{LineIs, FieldIs, SignedIs, CountAfter, CountOf}
 use Rattle.fields.proofs.Answers.{count-as}
 use Rattle.fields.proofs.LineLaws.{line-of, line-only}
 use Rattle.fields.proofs.NumberLaws.{field-of, behind-field}
-use Rattle.reader.specs.declared.Section.{Section}
-use Rattle.reader.specs.declared.Place.the-variants.{At, Nothing as NoPlace}
-use Rattle.reader.specs.Parts.{OrderIs, PlaceOf, before, HeadingIs}
+use Rattle.lines.specs.declared.Section.{Section}
+use Rattle.lines.specs.declared.Place.the-variants.{At, Nothing as NoPlace}
+use Rattle.lines.specs.Parts.{OrderIs, PlaceOf, before, HeadingIs}
 
 -- how the answer of `order_line` comes to tell of P
 module _ {P : ℕ → ℕ → ℤ → Type 0} where

@@ -7,10 +7,10 @@ use lib.IntN.{ℤ}
 use Rattle.theory.specs.Limits.{row-limit}
 use Rattle.sheet.proofs.Lines.{order-once}
 use Rattle.fields.proofs.SignedLaws.{order-bits}
-use Rattle.reader.specs.Parts.{OrderIs}
-use Rattle.reader.proofs.KeepLaws.{place-small, row-small, unkept-order, kept-order}
-use Rattle.reader.proofs.keep_order.Statement.{statement}
-use Rattle.reader.proofs.keep_order.Tie as tie
+use Rattle.lines.specs.Parts.{OrderIs}
+use Rattle.lines.proofs.KeepLaws.{place-small, row-small, unkept-order, kept-order}
+use Rattle.lines.proofs.keep_order.Statement.{statement}
+use Rattle.lines.proofs.keep_order.Tie as tie
 
 -- N, the row, the column and the order that the line says, where it says one; and its place is inside the table
 abbrev size : tie.After-known-told → ℕ

@@ -4,9 +4,9 @@ use native.Mathlib.Omega.{arith}
 use mathlib.Core.Path.{sym}
 use lib.Seq.{length-take-le}
 use Rattle.fields.specs.Fields.{LineIs}
-use Rattle.reader.proofs.KeepLaws.{front-missing, front-unfit, front-fit}
-use Rattle.reader.proofs.keep.Statement.{statement}
-use Rattle.reader.proofs.keep.Tie as tie
+use Rattle.lines.proofs.KeepLaws.{front-missing, front-unfit, front-fit}
+use Rattle.lines.proofs.keep.Statement.{statement}
+use Rattle.lines.proofs.keep.Tie as tie
 
 line-end-requires : tie.Need-line-end-requires
 line-end-requires c κs = search needs

@@ -1,10 +1,10 @@
 -- A line is kept as a label of its section, or as an order. Assumes nothing.
 use borrow.Author.Needs.{needs}
 use mathlib.Core.Path.{subst}
-use Rattle.reader.specs.Parts.{FewLabels}
-use Rattle.reader.proofs.KeepLaws.{kept-row, unkept-row, kept-col, unkept-col}
-use Rattle.reader.proofs.keep_line.Statement.{statement}
-use Rattle.reader.proofs.keep_line.Tie as tie
+use Rattle.lines.specs.Parts.{FewLabels}
+use Rattle.lines.proofs.KeepLaws.{kept-row, unkept-row, kept-col, unkept-col}
+use Rattle.lines.proofs.keep_line.Statement.{statement}
+use Rattle.lines.proofs.keep_line.Tie as tie
 
 enum-told : tie.Need-enum-told
 enum-told c = search needs

@@ -10,9 +10,9 @@ use Rattle.theory.specs.Limits.{order-limit}
 use Rattle.sheet.proofs.Bytes.{rest}
 use Rattle.fields.specs.Fields.{FieldIs, SignedIs, FrontOf, SignedOf}
 use Rattle.fields.proofs.SignedLaws.{order-bits}
-use Rattle.reader.proofs.LineLaws.{place-found, place-none, no-row, no-col, no-order, order-good}
-use Rattle.reader.proofs.order_line.Statement.{statement}
-use Rattle.reader.proofs.order_line.Tie as tie
+use Rattle.lines.proofs.LineLaws.{place-found, place-none, no-row, no-col, no-order, order-good}
+use Rattle.lines.proofs.order_line.Statement.{statement}
+use Rattle.lines.proofs.order_line.Tie as tie
 
 number-field-requires : tie.Need-number-field-requires
 number-field-requires c κs = search needs

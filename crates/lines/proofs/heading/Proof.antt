@@ -5,9 +5,9 @@ use mathlib.Core.Path.{sym}
 use lib.Seq.{length-take-le}
 use Rattle.fields.specs.Fields.{LineIs}
 use Rattle.fields.proofs.Answers.{front-found, front-none}
-use Rattle.reader.proofs.LineLaws.{heading-missing, heading-other, heading-good}
-use Rattle.reader.proofs.heading.Statement.{statement}
-use Rattle.reader.proofs.heading.Tie as tie
+use Rattle.lines.proofs.LineLaws.{heading-missing, heading-other, heading-good}
+use Rattle.lines.proofs.heading.Statement.{statement}
+use Rattle.lines.proofs.heading.Tie as tie
 
 line-end-requires : tie.Need-line-end-requires
 line-end-requires c κs = search needs

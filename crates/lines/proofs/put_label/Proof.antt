@@ -8,8 +8,8 @@ use lib.ListN.{length, getD, set, length-set}
 use lib.Seq.{paste, paste-zero, paste-suc}
 use Rattle.theory.specs.Limits.{row-limit}
 use Rattle.sheet.specs.Labels.{width}
-use Rattle.reader.proofs.put_label.Statement.{statement}
-use Rattle.reader.proofs.put_label.Tie as tie
+use Rattle.lines.proofs.put_label.Statement.{statement}
+use Rattle.lines.proofs.put_label.Tie as tie
 
 abbrev Inv-loop : tie.InvT-loop
 Inv-loop k line labels₀ at i₀ labels i =

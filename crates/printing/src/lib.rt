@@ -8,13 +8,13 @@ ghost use Rattle.printing.specs.Promise.{says, TableSays, SheetSays, Pri
 use canon::Answer;
 use canon::solve;
 use lettering::put;
+use lines::LABELS;
 use orders::PLACES;
 use orders::ROWS;
 use orders::Refusal;
 use orders::SHEET;
 use page::put_figures;
 use page::put_refusal;
-use reader::LABELS;
 use reader::Read;
 use reader::read_sheet;
 

@@ -18,9 +18,10 @@ use Rattle.sheet.specs.Reading.{tableOf, WrongLine}
 use Rattle.sheet.proofs.Slots.{slots-length, labels-short}
 use Rattle.sheet.proofs.Matching.{read-is-written}
 use Rattle.sheet.proofs.FirstWrong.{wrong-is-first}
-use Rattle.reader.specs.Parts.{Holding, Ends}
+use Rattle.lines.specs.Parts.{Holding}
+use Rattle.lines.proofs.KeepLaws.{take-replicate}
+use Rattle.reader.specs.Parts.{Ends}
 use Rattle.reader.specs.Promise.{Lent, lent, Wanted, slices, reader-tests, ReadPromise, refused, wrong-line, read}
-use Rattle.reader.proofs.KeepLaws.{take-replicate}
 use Rattle.reader.proofs.WalkLaws.{places-few}
 
 -- the three lengths

@@ -17,14 +17,15 @@ use Rattle.sheet.specs.Reading.{Final, tableOf, Outcome, good, wrong, Reads, do
 use Rattle.sheet.proofs.Lines.{Cut, unbroken, broken, cut, rank}
 use Rattle.sheet.proofs.Slots.{labels-none, labels-short}
 use Rattle.fields.proofs.LineLaws.{behind-line, line-length}
-use Rattle.reader.specs.declared.Section.{Section}
-use Rattle.reader.specs.declared.Section.the-variants.{Rows, Cols, Orders}
-use Rattle.reader.specs.declared.Kept.{Kept}
-use Rattle.reader.specs.declared.Kept.the-variants.{Line, Nothing as NoLine}
+use Rattle.lines.specs.declared.Section.{Section}
+use Rattle.lines.specs.declared.Section.the-variants.{Rows, Cols, Orders}
+use Rattle.lines.specs.declared.Kept.{Kept}
+use Rattle.lines.specs.declared.Kept.the-variants.{Line, Nothing as NoLine}
+use Rattle.lines.specs.Parts.{meant, before, size-after, HeadingIs, Store, store, Holds, row-count, col-count}
+use Rattle.lines.specs.Parts.{InSection, FewLabels, Within, FrontKept}
+use Rattle.lines.proofs.KeepLaws.{holding-length}
 use Rattle.reader.specs.declared.Walked.the-variants.{Rows as Walked·Rows, Wrong}
-use Rattle.reader.specs.Parts.{meant, before, size-after, HeadingIs, Store, store, Holds, row-count, col-count}
-use Rattle.reader.specs.Parts.{InSection, FewLabels, Within, FrontKept, Ends, WalkTells}
-use Rattle.reader.proofs.KeepLaws.{holding-length}
+use Rattle.reader.specs.Parts.{Ends, WalkTells}
 
 -- ---- one line after the other
 -- The lines passed said st, and what is left of the sheet begins with line `line`: a reading of it from there is a reading of the whole.

@@ -15,8 +15,10 @@ use Rattle.sheet.specs.Sheet.{Labelled, Stands, endedLines, isAbsent, presentCo
 use Rattle.sheet.proofs.Numbers.{text-mono}
 use Rattle.sheet.proofs.Orders.{sheet-bytes, count-le, absent-not, row-inside, col-inside, entries-right}
 use Rattle.sheet.proofs.Slots.{Short, short-tail, labels-short}
-use Rattle.writer.specs.Parts.{orderBytes, entryBytes, orderSection, label-most}
-use Rattle.writer.proofs.OrderLaws.{order-text-length, line-absent, line-present, bytes-cons}
+use Rattle.labels.specs.Parts.{label-most}
+use Rattle.order_lines.specs.Parts.{orderBytes, entryBytes}
+use Rattle.order_lines.proofs.OrderLaws.{order-text-length, line-absent, line-present, bytes-cons}
+use Rattle.writer.specs.Parts.{orderSection}
 
 -- the most bytes of an order line: two numbers up to the limit of rows, an order with its minus, and three bytes between and behind them
 abbrev order-most : ℕ

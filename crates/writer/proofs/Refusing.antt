@@ -13,7 +13,7 @@ use Rattle.handed.specs.Conditions.{OutOfSize, WrongEntry}
 use Rattle.handed.proofs.Basics.{entries-right}
 use Rattle.sheet.specs.Sheet.{Labelled, sheetOf}
 use Rattle.writer.specs.Promise.{Model, Wanted, slices, Labelling, WrongLabel, writer-tests, WritePromise, refused}
-use Rattle.writer.proofs.SlotLaws.{buffer-right, labels-buffer}
+use Rattle.labels.proofs.SlotLaws.{buffer-right, labels-buffer}
 use Rattle.writer.proofs.Unique.{labelling-once}
 
 module _ (h : Model) (room : List ℕ) where

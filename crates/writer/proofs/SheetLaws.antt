@@ -13,12 +13,14 @@ use Rattle.handed.specs.Conditions.{OutOfSize}
 use Rattle.handed.proofs.Basics.{sized}
 use Rattle.sheet.specs.Text.{feed, text, ended, rowsHead, colsHead, ordersHead, over}
 use Rattle.sheet.specs.Sheet.{Labelled, endedLines, presentCount, sheetOf}
-use Rattle.writer.specs.Parts.{labelsOf, BufferStands, labelSection, orderBytes, orderSection, restText, sheetText}
+use Rattle.labels.specs.Parts.{labelsOf, BufferStands}
+use Rattle.labels.proofs.SlotLaws.{labels-count, buffer-slots, buffer-labels}
+use Rattle.order_lines.specs.Parts.{orderBytes}
+use Rattle.writer.specs.Parts.{labelSection, orderSection, restText, sheetText}
 use Rattle.sheet.proofs.Orders.{sheet-bytes}
 use Rattle.lettering.specs.Putting.{Puts}
 use Rattle.writer.specs.Promise.{model, Wanted, Labelling, WritePromise, wrote}
 use Rattle.writer.proofs.Refusing.{refuse-room, all-clear}
-use Rattle.writer.proofs.SlotLaws.{labels-count, buffer-slots, buffer-labels}
 
 -- the length of the sheet, section by section
 head-length : (h : List ℕ) (n : ℕ) → length (ended (h ++ text n)) ≡ length h + length (text n) + 1

@@ -8,8 +8,9 @@ use lib.ListN.{length}
 use Rattle.orders.specs.Refusals.{Said, gives, refuses, refusal, Test, _given-when_, First, Clear, Slice, _wanted_, WrongLength}
 use Rattle.handed.specs.Conditions.{OutOfSize, WrongEntry}
 use Rattle.sheet.specs.Text.{over}
-use Rattle.sheet.specs.Labels.{width, Form, Labels, filled, slots, slot, Repeated}
+use Rattle.sheet.specs.Labels.{width, Labels, slots}
 use Rattle.sheet.specs.Sheet.{Labelled, sheetOf}
+use Rattle.labels.specs.Wrong.{WrongIn}
 use Rattle.writer.specs.declared.Written.{Written}
 use Rattle.writer.specs.declared.Written.the-variants.{Bytes, Refused}
 
@@ -48,12 +49,6 @@ pub record Labelling (h : Model) (t : Labelled) : Type 0 where
   pub rows-stand : Labels (t .row-labels)
   pub cols-stand : Labels (t .col-labels)
   pub entries-are : t .entries ≡ h .table
-
--- a label of one section "is malformed or repeated": the bytes in its place of the buffer are those of no label "filled up with zero
--- bytes", or stand in an earlier place too
-pub data WrongIn (n : ℕ) (b : List ℕ) : Type 0 where
-  malformed : (k : ℕ) → k < n → ((l : List ℕ) → Form l → slot b k ≡ filled l → ⊥) → WrongIn n b
-  repeated : (k : ℕ) → k < n → Repeated b k → WrongIn n b
 
 -- 11: "a label handed to the writer is malformed or repeated"
 abbrev pub WrongLabel : Model → Type 0

@@ -7,7 +7,7 @@ use lib.ListN.{length}
 use mir.Syntax.{w64}
 use mir.Val.{Fits}
 use Rattle.sheet.proofs.Bytes.{rest as from}
-use Rattle.reader.specs.Parts.{HeadingIs, store}
+use Rattle.lines.specs.Parts.{HeadingIs, store}
 use Rattle.reader.proofs.WalkLaws.{BeforeHeading, BeforeLine, sections-left, next-line, walk-start, heading-wrong, heading-passed}
 use Rattle.reader.proofs.WalkLaws.{line-within, line-due, line-wrong, line-passed, rows-done, cols-done, sheet-ends, sheet-goes-on}
 use Rattle.reader.proofs.WalkLaws.{walk-wrong, walk-good}

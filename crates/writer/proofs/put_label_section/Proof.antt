@@ -6,7 +6,7 @@ use mathlib.Core.List.{_++_}
 use Rattle.lettering.proofs.PutLaws.{first-room, FirstPut, tail-inside, tail-room, total-fits, both-put}
 use Rattle.sheet.specs.Sheet.{endedLines}
 use Rattle.sheet.specs.Text.{text, ended}
-use Rattle.writer.specs.Parts.{labelsOf}
+use Rattle.labels.specs.Parts.{labelsOf}
 use Rattle.writer.proofs.put_label_section.Statement.{statement}
 use Rattle.writer.proofs.put_label_section.Tie as tie
 

@@ -6,7 +6,7 @@ use mathlib.Core.List.{_++_}
 use Rattle.lettering.proofs.PutLaws.{puts-same, first-room, FirstPut, tail-inside, tail-room, total-fits, both-put}
 use Rattle.sheet.specs.Sheet.{presentCount}
 use Rattle.sheet.specs.Text.{text, ended, ordersHead}
-use Rattle.writer.specs.Parts.{orderBytes}
+use Rattle.order_lines.specs.Parts.{orderBytes}
 use Rattle.writer.proofs.put_order_section.Statement.{statement}
 use Rattle.writer.proofs.put_order_section.Tie as tie
 

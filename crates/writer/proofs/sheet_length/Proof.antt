@@ -8,7 +8,8 @@ use Rattle.theory.specs.Limits.{row-limit}
 use Rattle.lettering.proofs.TextLaws.{number-short}
 use Rattle.orders.proofs.Places.{square-small}
 use Rattle.sheet.specs.Text.{text}
-use Rattle.writer.specs.Parts.{label-most, number-most, line-most}
+use Rattle.labels.specs.Parts.{label-most}
+use Rattle.order_lines.specs.Parts.{number-most, line-most}
 use Rattle.writer.proofs.SheetLaws.{sheet-text-length}
 use Rattle.writer.proofs.sheet_length.Statement.{statement}
 use Rattle.writer.proofs.sheet_length.Tie as tie

@@ -7,7 +7,7 @@ use Rattle.theory.specs.Limits.{order-limit}
 use Rattle.theory.specs.Table.{Entries}
 use Rattle.handed.specs.Conditions.{OutOfSize}
 use Rattle.handed.proofs.Basics.{in-size, wrong-entry}
-use Rattle.writer.specs.Parts.{BufferStands}
+use Rattle.labels.specs.Parts.{BufferStands}
 use Rattle.writer.specs.Promise.{Model, model, Wanted}
 use Rattle.writer.proofs.Refusing.{refuse-size, refuse-length, refuse-entry, refuse-label}
 use Rattle.writer.proofs.SheetLaws.{square, write-refused, write-good}

@@ -1,9 +1,10 @@
 //! Times the library's calls beside an ordinary implementation of the same answers, in one run.
 //!
 //! bench times [CALL]: the times in microseconds, the library's and the ordinary ones, each the median of repeats and of
-//! the processor's time alone. bench stack: the stack that each call uses. bench count CALL KIND N WHO: the call on every
-//! table once, inside the function `counted`, for callgrind. bench tables: how many tables that is. bench spin CALL KIND N
-//! WHO: the same many times over, for a sampling profiler. The answers of the two are compared first.
+//! the processor's time alone. bench beside: the same with an older archive in the place of the ordinary program. bench
+//! stack: the stack that each call uses. bench count CALL KIND N WHO: the call on every table once, inside the function
+//! `counted`, for callgrind. bench tables: how many tables that is. bench spin CALL KIND N WHO: the same many times over,
+//! for a sampling profiler. The answers of the two are compared first.
 
 mod ordinary;
 
@@ -14,23 +15,7 @@ const CALLS: [&str; 7] = ["solve", "from_canon", "from_stars", "is_simplest", "r
 const KINDS: [&str; 4] = ["full", "small", "sparse", "staircase"];
 const SIZES: [usize; 3] = [8, 16, 32];
 
-#[rustfmt::skip]
 extern "C" {
-    fn canon_solve(n: usize, table: *const i16, table_len: usize, adds: *mut u32, adds_len: usize,
-        stars: *mut u32, stars_len: usize, heads: *mut i32, heads_len: usize, sum: *mut i32) -> u32;
-    fn canon_from_canon(n: usize, table: *const i16, table_len: usize, given: *const u32, given_len: usize,
-        adds: *mut u32, adds_len: usize, stars: *mut u32, stars_len: usize, heads: *mut i32, heads_len: usize,
-        sum: *mut i32) -> u32;
-    fn canon_from_stars(n: usize, table: *const i16, table_len: usize, given: *const u32, given_len: usize,
-        adds: *mut u32, adds_len: usize, stars: *mut u32, stars_len: usize, heads: *mut i32, heads_len: usize,
-        sum: *mut i32) -> u32;
-    fn canon_is_simplest(n: usize, table: *const i16, table_len: usize, given: *const u32, given_len: usize,
-        yes: *mut u8) -> u32;
-    fn canon_read_sheet(sheet: *const u8, sheet_len: usize, table: *mut i16, table_len: usize,
-        rows: *mut u8, rows_len: usize, cols: *mut u8, cols_len: usize, n: *mut usize, line: *mut usize) -> u32;
-    fn canon_write_sheet(n: usize, table: *const i16, table_len: usize, rows: *const u8, rows_len: usize,
-        cols: *const u8, cols_len: usize, out: *mut u8, out_len: usize, length: *mut usize) -> u32;
-    fn canon_print(sheet: *const u8, sheet_len: usize, out: *mut u8, out_len: usize, length: *mut usize) -> u32;
     fn clock_gettime(clock: i32, time: *mut [i64; 2]) -> i32;
     fn _exit(status: i32) -> !;
 }
@@ -164,35 +149,56 @@ fn jobs(kind: &str, n: usize) -> Vec<Job> {
     (0..TABLES).map(|_| job(&mut chance, kind, n)).collect()
 }
 
-/// The library's call.
-#[inline(never)]
-fn library(call: &str, job: &Job, room: &mut Room) -> u32 {
-    let n = job.n;
-    let (table, adds, stars, heads) = (job.table.as_ptr(), room.adds.as_mut_ptr(), room.stars.as_mut_ptr(), room.heads.as_mut_ptr());
-    // Safety: each pointer is to as many elements as are said, and nothing that is written overlaps anything else.
-    unsafe {
-        match call {
-            "solve" => canon_solve(n, table, n * n, adds, n, stars, n, heads, n, &mut room.sum),
-            "from_canon" => {
-                canon_from_canon(n, table, n * n, job.canon.as_ptr(), n, adds, n, stars, n, heads, n, &mut room.sum)
-            }
-            "from_stars" => {
-                canon_from_stars(n, table, n * n, job.stars.as_ptr(), n, adds, n, stars, n, heads, n, &mut room.sum)
-            }
-            "is_simplest" => canon_is_simplest(n, table, n * n, job.asked.as_ptr(), n, &mut room.yes),
-            "read_sheet" => {
-                let (rows, cols) = (room.rows.as_mut_ptr(), room.cols.as_mut_ptr());
-                let into = room.table.as_mut_ptr();
-                canon_read_sheet(job.sheet.as_ptr(), job.sheet.len(), into, 1024, rows, 256, cols, 256, &mut room.n, &mut room.line)
-            }
-            "print" => canon_print(job.sheet.as_ptr(), job.sheet.len(), room.out.as_mut_ptr(), 12288, &mut room.line),
-            _ => {
-                let (rows, cols) = (job.rows.as_ptr(), job.cols.as_ptr());
-                canon_write_sheet(n, table, n * n, rows, 8 * n, cols, 8 * n, room.out.as_mut_ptr(), 12288, &mut room.line)
+/// The calls of an archive whose functions have these names, as one function.
+#[rustfmt::skip]
+macro_rules! archive {
+    ($caller:ident: $solve:ident, $from_canon:ident, $from_stars:ident, $is_simplest:ident, $read_sheet:ident, $write_sheet:ident, $print:ident) => {
+        extern "C" {
+            fn $solve(n: usize, table: *const i16, table_len: usize, adds: *mut u32, adds_len: usize,
+                stars: *mut u32, stars_len: usize, heads: *mut i32, heads_len: usize, sum: *mut i32) -> u32;
+            fn $from_canon(n: usize, table: *const i16, table_len: usize, given: *const u32, given_len: usize,
+                adds: *mut u32, adds_len: usize, stars: *mut u32, stars_len: usize, heads: *mut i32, heads_len: usize,
+                sum: *mut i32) -> u32;
+            fn $from_stars(n: usize, table: *const i16, table_len: usize, given: *const u32, given_len: usize,
+                adds: *mut u32, adds_len: usize, stars: *mut u32, stars_len: usize, heads: *mut i32, heads_len: usize,
+                sum: *mut i32) -> u32;
+            fn $is_simplest(n: usize, table: *const i16, table_len: usize, given: *const u32, given_len: usize,
+                yes: *mut u8) -> u32;
+            fn $read_sheet(sheet: *const u8, sheet_len: usize, table: *mut i16, table_len: usize,
+                rows: *mut u8, rows_len: usize, cols: *mut u8, cols_len: usize, n: *mut usize, line: *mut usize) -> u32;
+            fn $write_sheet(n: usize, table: *const i16, table_len: usize, rows: *const u8, rows_len: usize,
+                cols: *const u8, cols_len: usize, out: *mut u8, out_len: usize, length: *mut usize) -> u32;
+            fn $print(sheet: *const u8, sheet_len: usize, out: *mut u8, out_len: usize, length: *mut usize) -> u32;
+        }
+
+        #[inline(never)]
+        fn $caller(call: &str, job: &Job, room: &mut Room) -> u32 {
+            let n = job.n;
+            let (table, sheet) = (job.table.as_ptr(), job.sheet.as_ptr());
+            let (adds, stars, heads) = (room.adds.as_mut_ptr(), room.stars.as_mut_ptr(), room.heads.as_mut_ptr());
+            let (rows, cols, out) = (room.rows.as_mut_ptr(), room.cols.as_mut_ptr(), room.out.as_mut_ptr());
+            // Safety: each pointer is to as many elements as are said, and nothing that is written overlaps anything else.
+            unsafe {
+                match call {
+                    "solve" => $solve(n, table, n * n, adds, n, stars, n, heads, n, &mut room.sum),
+                    "from_canon" => $from_canon(n, table, n * n, job.canon.as_ptr(), n, adds, n, stars, n, heads, n, &mut room.sum),
+                    "from_stars" => $from_stars(n, table, n * n, job.stars.as_ptr(), n, adds, n, stars, n, heads, n, &mut room.sum),
+                    "is_simplest" => $is_simplest(n, table, n * n, job.asked.as_ptr(), n, &mut room.yes),
+                    "read_sheet" => $read_sheet(sheet, job.sheet.len(), room.table.as_mut_ptr(), 1024, rows, 256, cols, 256,
+                        &mut room.n, &mut room.line),
+                    "print" => $print(sheet, job.sheet.len(), out, 12288, &mut room.line),
+                    _ => $write_sheet(n, table, n * n, job.rows.as_ptr(), 8 * n, job.cols.as_ptr(), 8 * n, out, 12288, &mut room.line),
+                }
             }
         }
-    }
+    };
 }
+
+archive!(library: canon_solve, canon_from_canon, canon_from_stars, canon_is_simplest, canon_read_sheet, canon_write_sheet, canon_print);
+
+// An older archive, with other names, where `bench/run beside` links one.
+#[cfg(beside)]
+archive!(older: older_solve, older_from_canon, older_from_stars, older_is_simplest, older_read_sheet, older_write_sheet, older_print);
 
 fn keep(answer: Result<ordinary::Answer, u32>, n: usize, room: &mut Room) -> u32 {
     match answer {
@@ -249,16 +255,17 @@ fn ordinary_call(call: &str, job: &Job, room: &mut Room) -> u32 {
     }
 }
 
-fn agree(call: &str, jobs: &[Job]) {
-    for job in jobs {
+/// Do the library and what stands beside it answer every job with the same bytes?
+fn agree(beside: Caller, call: &str, jobs: &[Job]) -> bool {
+    jobs.iter().all(|job| {
         let (mut one, mut other) = (Room::new(), Room::new());
         let status = library(call, job, &mut one);
-        assert_eq!((status, ordinary_call(call, job, &mut other)), (0, 0), "{call} refused {:?}", job.table);
-        assert!(one.adds == other.adds && one.stars == other.stars && one.heads == other.heads && one.sum == other.sum);
-        assert!(one.yes == other.yes);
-        assert!(one.table == other.table && one.rows == other.rows && one.cols == other.cols && one.n == other.n);
-        assert!(one.out == other.out && one.line == other.line);
-    }
+        assert_eq!((status, beside(call, job, &mut other)), (0, 0), "{call} refused {:?}", job.table);
+        one.adds == other.adds && one.stars == other.stars && one.heads == other.heads && one.sum == other.sum
+            && one.yes == other.yes
+            && one.table == other.table && one.rows == other.rows && one.cols == other.cols && one.n == other.n
+            && one.out == other.out && one.line == other.line
+    })
 }
 
 /// The processor time of this thread, in microseconds: what other programs take meanwhile does not count.
@@ -288,27 +295,30 @@ fn median(mut values: Vec<f64>) -> f64 {
     values[values.len() / 2]
 }
 
-/// The library's and the ordinary time, each the median of repeats that take turns.
-fn measure(call: &str, jobs: &[Job]) -> (f64, f64) {
+/// The library's time and that of what stands beside it, each the median of repeats that take turns.
+fn measure(beside: Caller, call: &str, jobs: &[Job]) -> (f64, f64) {
     let mut room = Room::new();
     let trial = once(library, call, jobs, 1, &mut room) * jobs.len() as f64;
     let times = (2000.0 / trial).ceil().max(1.0) as usize;
     let mut pairs = (Vec::new(), Vec::new());
     for _ in 0..REPEATS {
         pairs.0.push(once(library, call, jobs, times, &mut room));
-        pairs.1.push(once(ordinary_call, call, jobs, times, &mut room));
+        pairs.1.push(once(beside, call, jobs, times, &mut room));
     }
     (median(pairs.0), median(pairs.1))
 }
 
-/// A line for each call, kind and size: the library's and the ordinary time.
-fn print_times(calls: &[&str]) {
+/// A line for each call, kind and size: the library's time and the other, if their answers are the same.
+fn print_times(beside: Caller, calls: &[&str]) {
     for &call in calls {
         for kind in KINDS {
             for n in SIZES {
                 let jobs = jobs(kind, n);
-                agree(call, &jobs);
-                let (own, other) = measure(call, &jobs);
+                if !agree(beside, call, &jobs) {
+                    println!("{call} {kind} {n} answers differ");
+                    continue;
+                }
+                let (own, other) = measure(beside, call, &jobs);
                 println!("{call} {kind} {n} {own:.2} {other:.2}");
             }
         }
@@ -372,12 +382,14 @@ fn main() {
     let words: Vec<String> = std::env::args().skip(1).collect();
     let words: Vec<&str> = words.iter().map(|w| w.as_str()).collect();
     match words[..] {
-        ["times"] => print_times(&CALLS),
-        ["times", call] => print_times(&[call]),
+        ["times"] => print_times(ordinary_call, &CALLS),
+        ["times", call] => print_times(ordinary_call, &[call]),
+        #[cfg(beside)]
+        ["beside"] => print_times(older, &CALLS),
         ["stack"] => print_stack(),
         ["count", call, kind, n, who] => {
             let jobs = jobs(kind, n.parse().expect("N is a number"));
-            agree(call, &jobs);
+            assert!(agree(ordinary_call, call, &jobs));
             counted(if who == "library" { library } else { ordinary_call }, call, &jobs, &mut Room::new());
         }
         ["spin", call, kind, n, who] => {

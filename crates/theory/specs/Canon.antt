@@ -1,7 +1,7 @@
 -- Document 01's "Definitions taken from Jacobi", for a table with n rows and n columns whose entry in row i and column j is
 -- `a i j`. Additions are natural numbers, one for each row; orders, heads and sums are signed. Only rows and columns below n count.
 use mathlib.Core.Path.{_≡_}
-use Prim.Native.Nat.{ℕ, _+_, _≤_, _<_}
+use Prim.Native.Nat.{ℕ, _≤_, _<_}
 use lib.IntN.{ℤ, pos, _+ℤ_, _-ℤ_}
 use lib.Signed.{_≤ℤ_, _<ℤ_}
 use Rattle.theory.specs.Totals.{total, totalℕ}

@@ -1,7 +1,7 @@
 -- A place holds a label and then zero bytes. Assumes nothing.
 use borrow.Author.Needs.{needs}
 use native.Mathlib.Omega.{arith}
-use Prim.Native.Nat.{ℕ, _-_, _<_}
+use Prim.Native.Nat.{ℕ, _<_}
 use mathlib.Core.Path.{_≡_, sym, ap, subst, _∙_, subst⁻¹}
 use lib.ListN.{length, getD, take}
 use Rattle.orders.proofs.Entries.{tells-no}

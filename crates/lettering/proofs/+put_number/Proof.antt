@@ -2,7 +2,7 @@
 use borrow.Author.Needs.{needs}
 use native.Mathlib.Omega.{arith}
 use Rattle.lettering.proofs.TextLaws.{text-length, digits-more}
-use Prim.Native.Nat.{_+_, _/_}
+use Prim.Native.Nat.{_/_}
 use Rattle.sheet.proofs.Numbers.{text-some}
 use Rattle.sheet.specs.Text.{text}
 use Rattle.lettering.proofs.PutLaws.{number-one, number-more, puts-length}

@@ -1,7 +1,7 @@
 -- The bytes so far are copied, the others stay. Assumes nothing.
 use borrow.Author.Needs.{needs}
 use native.Mathlib.Omega.{arith}
-use Prim.Native.Nat.{_+_, _-_, _≤_}
+use Prim.Native.Nat.{_-_, _≤_}
 use mathlib.Core.Path.{_≡_, refl, ap, _∙_}
 use lib.ListN.{length, getD, set, take, drop, length-set}
 use mathlib.Core.List.{_++_}

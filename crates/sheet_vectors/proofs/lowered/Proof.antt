@@ -1,7 +1,7 @@
 -- Assumes nothing.
 use borrow.Author.Needs.{needs}
 use native.Mathlib.Omega.{arith}
-use Prim.Native.Nat.{_-_, _%_}
+use Prim.Native.Nat.{_%_}
 use Rattle.sheet_vectors.proofs.Shifted.{lowered-fits, lowered-small}
 use Rattle.sheet_vectors.proofs.lowered.Statement.{statement}
 use Rattle.sheet_vectors.proofs.lowered.Tie as tie

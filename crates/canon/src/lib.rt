@@ -57,7 +57,7 @@ pub fn solved(n: usize, table: &[i16], start: [u32; ROWS]) -> Findings
     }
     let rows = grown.rows;
     let columns = grown.columns;
-    let answer = completed(n, table, additions, rows, columns);
+    let answer = completed(n, table, additions, &rows, &columns);
     Findings {
         found: true,
         answer,
@@ -121,7 +121,7 @@ pub fn from_canon(
     let additions = lowered.additions;
     let rows = lowered.rows;
     let columns = lowered.columns;
-    Answer::Sum(delivered(n, table, additions, rows, columns, adds, stars, heads))
+    Answer::Sum(delivered(n, table, additions, &rows, &columns, adds, stars, heads))
 }
 
 // Route 3: the same from a transversal of greatest sum. Rules out what `solve` rules out, the stars handed back where others come
@@ -155,7 +155,7 @@ pub fn from_stars(
         return Answer::Refused(Refusal::NotGreatest);
     }
     let additions = raised.additions;
-    Answer::Sum(delivered(n, table, additions, rows, columns, adds, stars, heads))
+    Answer::Sum(delivered(n, table, additions, &rows, &columns, adds, stars, heads))
 }
 
 // The yes-or-no: are the additions the simplest canon? Rules out a yes to any other canon, a no to the simplest, and either where

@@ -108,14 +108,14 @@ pub fn completed(
     n: usize,
     table: &[i16],
     additions: [u32; ROWS],
-    rows: [usize; ROWS],
-    columns: [usize; ROWS],
+    rows: &[usize; ROWS],
+    columns: &[usize; ROWS],
 ) -> WholeAnswer
-    requires { ⌜ Square (now table) n × CanonBy (now table) n additions columns × Marks n (nums rows) (nums columns) ⌝ }
+    requires { ⌜ Square (now table) n × CanonBy (now table) n additions (now columns) × Marks n (nums (now rows)) (nums (now columns)) ⌝ }
     ensures { λ r. ⌜ WholeAnswerOf (now (table .entry)) n additions r ⌝ }
 {
-    let heads = heads_of(table, n, &additions, &rows);
-    let first = first_stars(n, table, &additions, &heads, rows, columns);
+    let heads = heads_of(table, n, &additions, rows);
+    let first = first_stars(n, table, &additions, &heads, *rows, *columns);
     let sum = sum_of(table, n, &first);
     let stars = numbered(n, &first);
     WholeAnswer {
@@ -153,15 +153,15 @@ pub fn delivered(
     n: usize,
     table: &[i16],
     additions: [u32; ROWS],
-    rows: [usize; ROWS],
-    columns: [usize; ROWS],
+    rows: &[usize; ROWS],
+    columns: &[usize; ROWS],
     adds: &mut [u32],
     stars: &mut [u32],
     heads: &mut [i32],
 ) -> i32
     requires { ⌜ Square (now table) n
-        × CanonBy (now table) n additions columns
-        × Marks n (nums rows) (nums columns)
+        × CanonBy (now table) n additions (now columns)
+        × Marks n (nums (now rows)) (nums (now columns))
         × Slices n (now adds) (now stars) (now heads) ⌝ }
     ensures { λ r. ⌜ Delivered (now (table .entry)) n additions r (now (adds .exit)) (now (stars .exit)) (now (heads .exit)) ⌝ }
 {

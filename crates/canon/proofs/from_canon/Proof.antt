@@ -60,7 +60,7 @@ returns-4 c =
 
 delivered-requires : tie.Need-delivered-requires
 delivered-requires c κs =
-    let h = c .before .before .before .before .before .before in
+    let h = c .before .before .before .before .before .before .before .before in
     let d = h .before .before in
     let l = d .before .before .from-additions .ensures in
     let canon = not-false _ (h .if3 .left) in
@@ -79,7 +79,7 @@ same-length-3 c = search needs
 returns-5 : tie.Need-returns-5
 returns-5 c =
     let p = c .before .before .before .before .before in
-    let h = p .before .before .before .before .before .before .before in
+    let h = p .before .before .before .before .before .before .before .before .before in
     let d = h .before .before in
     let e = d .before .before .before in
     let f = d .before .before .from-additions .ensures in

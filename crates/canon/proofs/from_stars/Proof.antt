@@ -61,7 +61,7 @@ returns-4 c =
 
 delivered-requires : tie.Need-delivered-requires
 delivered-requires c κs =
-    let h = c .before .before .before .before in
+    let h = c .before .before .before .before .before .before in
     let d = h .before .before in
     let e = d .before .before .before .before .before .before in
     let l = e .before .before .listed-marks .ensures in
@@ -82,7 +82,7 @@ same-length-3 c = search needs
 returns-5 : tie.Need-returns-5
 returns-5 c =
     let p = c .before .before .before .before .before in
-    let h = p .before .before .before .before .before in
+    let h = p .before .before .before .before .before .before .before in
     let d = h .before .before in
     let e = d .before .before .before .before .before .before in
     let f = d .before .before .from-columns .ensures in

@@ -13,14 +13,14 @@ returns c = found-none (c .before .before .before .grow .ensures .none (not-true
 
 completed-requires : tie.Need-completed-requires
 completed-requires c κs =
-    let e = c .before .before in
+    let e = c .before .before .before .before in
     let d = e .before .before .before in
     let found = not-false _ (e .if1 .left) in
     (d .before .pre .square, d .grow .ensures .found found .canon, d .grow .ensures .marks found)
 
 returns-2 : tie.Need-returns-2
 returns-2 c =
-    let e = c .before .before .before in
+    let e = c .before .before .before .before .before in
     found-whole (e .before .before .before .grow .ensures .found (not-false _ (e .if1 .left)) .least) (c .completed .ensures)
 
 pub solved-spec : {M : Type 1} → statement M

@@ -18,9 +18,10 @@
  * No slice and no single result that a call writes may overlap anything else handed over, other single results among
  * them. Nothing else is asked of a caller: sizes, lengths and contents are tested by the calls themselves.
  *
- * RESULTS. A call returns 0, or the number of a refusal from the table below. On 0 the slices and the single results
- * are written; on a refusal every lent slice and every single result holds what it held before (but for `line` of
- * canon_read_sheet, which refusal 10 writes). The lowest number that applies is returned.
+ * RESULTS. A call returns 0, or the number of a refusal from the table below. On 0 the slices that are not const and
+ * the single results are written (but for `line` of canon_read_sheet); on a refusal every lent slice and every single
+ * result holds what it held before (but for that `line`, which refusal 10 alone writes). The lowest number that applies
+ * is returned.
  *
  *   No.  name                      given exactly when
  *    1   CANON_SIZE                N is 0 or above 32

@@ -1,6 +1,6 @@
 -- Document 01's "Refusal numbers", the column "Given exactly when", as far as table, additions and stars go: one definition for
--- each number (9 and 10 stand with the reading of a sheet, 11 and 12 with the writer's promise). The tests of a call stand in
--- rising order.
+-- each number (2 stands in orders/specs/Refusals, 9 and 10 in sheet/specs, Sheet and FirstWrong, 11 in labels/specs/Wrong, 12 with the
+-- writer's promise). The tests of a call stand in rising order.
 use mathlib.Core.Path.{_≡_}
 use mathlib.Core.Logic.{_⊎_}
 use mathlib.Core.List.{List, [], _∷_}

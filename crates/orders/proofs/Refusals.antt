@@ -131,6 +131,10 @@ refusal-once r s e =
 pub given-once : {X : Type 0} (x y : X) → _≡_ {A = Said X} (gives x) (gives y) → x ≡ y
 given-once x y e = cc
 
+-- refusals that say the same have number and values in common
+pub same-number : {X : Type 0} (j k : ℕ) (vs ws : List ℕ) → _≡_ {A = Said X} (refuses j vs) (refuses k ws) → (k ≡ j) × (ws ≡ vs)
+same-number j k vs ws e = let a : k ≡ j = cc in let b : ws ≡ vs = cc in (a, b)
+
 -- a value is no refusal
 pub not-both {ℓ} : {A : Type ℓ} {X : Type 0} (x : X) (k : ℕ) (vs : List ℕ) → _≡_ {A = Said X} (gives x) (refuses k vs) → A
 not-both x k vs e = absurd (let z : _≡_ {A = ℕ} 0 1 = cc in omega arith)

@@ -4,4 +4,5 @@ pub mod Copying
 pub mod Inputs
 pub mod Figures
 pub mod Unique
+pub mod Demands
 pub mod Shown

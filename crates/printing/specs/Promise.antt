@@ -45,7 +45,7 @@ pub data SheetSays (s : List ℕ) (a : Said Figures) : Type 0 where
   of-table : (t : Labelled) → (TooLong s → ⊥) → IsSheet t s → TableSays (length (t .row-labels)) (t .entries) a → SheetSays s a
 
 -- the sheet, the room at the call, the room after it, and what is returned: the printed answer stands at the front of the room,
--- and bytes after it stay; or it does not fit, and the room holds what it held at the call
+-- and bytes after it stay; or it does not fit: then 12 is returned, and the room holds what it held at the call
 pub data PrintPromise (s room room′ : List ℕ) (r : Said ℕ) : Type 0 where
   no-room : (a : Said Figures) → SheetSays s a → length room < length (printed a) → r ≡ refuses 12 [] → room′ ≡ room → PrintPromise s room room′ r
   wrote : (a : Said Figures) → SheetSays s a → length (printed a) ≤ length room → r ≡ gives (length (printed a)) → room′ ≡ over (printed a) room

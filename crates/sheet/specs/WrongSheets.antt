@@ -64,5 +64,6 @@ wrong-sheets =
     line 6 "rows 1\na\ncols 1\nx\norders 1\n1 1 5" ∷
     line 6 "rows 1\na\ncols 1\nx\norders 0\n\n" ∷
     line 7 "rows 1\na\ncols 1\nx\norders 1\n1 1 5\n1 1 5\n" ∷
+    line 9 "rows 2\na\nb\ncols 2\na\nb\norders 1\n1 1 0\n1 2 0\n" ∷
     line 7 "rows 1\na\ncols 1\nx\norders 1\n1 1 5\n1" ∷
     []

@@ -6,7 +6,7 @@ use Prim.Native.Nat.{ℕ}
 use native.Mathlib.Omega.{arith}
 use lib.ListN.{length}
 use Rattle.orders.specs.Refusals.{Said, refuses, numbers, Rising, due}
-use Rattle.orders.proofs.Refusals.{first-once, first-clear, first-lowest, not-both}
+use Rattle.orders.proofs.Refusals.{first-once, first-clear, first-lowest, same-number, not-both}
 use Rattle.sheet.specs.Sheet.{sheetOf}
 use Rattle.sheet.proofs.Matching.{labelled-once}
 use Rattle.sheet.proofs.FirstWrong as wrong
@@ -19,10 +19,6 @@ use Rattle.writer.proofs.Unique.{write-once}
 use Rattle.sheet_round.specs.Demands.{reader-due, SheetCalls, OneToOne}
 use Rattle.sheet_round.proofs.Bound.{sheet-fits}
 use Rattle.sheet_round.proofs.Round.{read-back, write-back}
-
--- what two refusals that say the same have in common
-same-number : (j k : ℕ) (vs ws : List ℕ) → _≡_ {A = Said ℕ} (refuses j vs) (refuses k ws) → (k ≡ j) × (ws ≡ vs)
-same-number j k vs ws e = let a : k ≡ j = cc in let b : ws ≡ vs = cc in (a, b)
 
 -- ---- the reader refuses what it has to, and nothing else
 module _ (s : List ℕ) (m m′ : Lent) (a : Said ℕ) where

@@ -23,7 +23,7 @@ abbrev pub reader-due : List ℕ → Lent → ℕ → List ℕ → Type 0
 reader-due s m k values =
     due (reader-tests s m) k values ⊎ ((line : ℕ) × Clear (reader-tests s m) × FirstWrong s line × (k ≡ 10) × (values ≡ line ∷ []))
 
--- Demand 1 of the calls on sheets: "Public calls test size, lengths, orders and lists themselves, give the numbered refusal, and then
+-- Demand 1 of reader and writer: "Public calls test size, lengths, orders and lists themselves, give the numbered refusal, and then
 -- leave each lent buffer holding what it held before."
 pub record SheetCalls : Type 0 where
   pub reader : (s : List ℕ) (m : Lent) → Proper (reader-due s m) reading.says m (λ (r : Read) m′. ReadPromise s m m′ (reading.says r))

@@ -1,10 +1,12 @@
 #!/usr/bin/env python3
-"""scipy's linear_sum_assignment on the tables of the benchmark: bench dump | bench/assignment.py.
+"""bench/assignment.py BENCH: scipy's linear_sum_assignment beside the library's `solve` on the tables of the benchmark.
 
-It finds a transversal of greatest sum and no more: no canon, no first stars. The sums are held against the library's.
-Prints a row of Markdown for each kind of table: the median time of a call in microseconds at each size.
+It finds a transversal of greatest sum and no more: no canon, no first stars. The sums are held against the library's. The two
+take turns, so that what slows the machine slows both. Prints a line for each kind and size: the median times of scipy and of
+`solve` in microseconds, and the median ratio of two times in turn, its quarter and its three quarters.
 """
 import statistics
+import subprocess
 import sys
 import time
 
@@ -12,13 +14,12 @@ import numpy
 from scipy.optimize import linear_sum_assignment
 
 ABSENT = -32768
-REPEATS = 15
-ROUNDS = 20
+REPEATS = 41
 
 
-def main():
+def tables_of(bench):
     groups = {}
-    for line in sys.stdin:
+    for line in subprocess.run([bench, "dump"], check=True, capture_output=True, text=True).stdout.splitlines():
         kind, n, total, *entries = line.split()
         n = int(n)
         table = numpy.array([int(v) for v in entries], dtype=float).reshape(n, n)
@@ -27,19 +28,31 @@ def main():
         rows, columns = linear_sum_assignment(table, maximize=True)
         if table[rows, columns].sum() != int(total):
             sys.exit(f"another greatest sum on a table {kind} {n}")
-        groups.setdefault(kind, {}).setdefault(n, []).append(table)
-    for kind, sizes in groups.items():
-        medians = []
-        for tables in sizes.values():
-            times = []
-            for _ in range(REPEATS):
-                begun = time.thread_time()
-                for _ in range(ROUNDS):
-                    for table in tables:
-                        linear_sum_assignment(table, maximize=True)
-                times.append((time.thread_time() - begun) / (ROUNDS * len(tables)) * 1e6)
-            medians.append(f"{statistics.median(times):.2f}")
-        print(f"| {kind} | {', '.join(medians)} |")
+        groups.setdefault((kind, n), []).append(table)
+    return groups
+
+
+def one_time(tables, rounds):
+    begun = time.thread_time()
+    for _ in range(rounds):
+        for table in tables:
+            linear_sum_assignment(table, maximize=True)
+    return (time.thread_time() - begun) / (rounds * len(tables)) * 1e6
+
+
+def main():
+    bench = sys.argv[1]
+    groups = tables_of(bench)
+    solving = subprocess.Popen([bench, "turns"], stdin=subprocess.PIPE, stdout=subprocess.PIPE, text=True)
+    for (kind, n), tables in groups.items():
+        rounds = max(1, round(2000 / (one_time(tables, 1) * len(tables))))
+        theirs, own = [], []
+        for _ in range(REPEATS):
+            print(kind, n, file=solving.stdin, flush=True)
+            own.append(float(solving.stdout.readline()))
+            theirs.append(one_time(tables, rounds))
+        ratios = statistics.quantiles([one / other for one, other in zip(own, theirs)], n=4)
+        print(kind, n, *(f"{x:.2f}" for x in (statistics.median(theirs), statistics.median(own), ratios[1], ratios[0], ratios[2])))
 
 
 main()

@@ -4,7 +4,8 @@
 //! the processor's time alone. bench beside: the same with an older archive in the place of the ordinary program. bench
 //! stack: the stack that each call uses. bench count CALL KIND N WHO: the call on every table once, inside the function
 //! `counted`, for callgrind. bench tables: how many tables that is. bench spin CALL KIND N WHO: the same many times over,
-//! for a sampling profiler. The answers of the two are compared first.
+//! for a sampling profiler. The answers of the two are compared first. bench dump: the tables themselves. bench turns: for
+//! each kind and size on standard input one more time of `solve`, so that another program can take turns with this one.
 
 mod ordinary;
 
@@ -12,7 +13,7 @@ const ABSENT: i16 = -32768;
 const TABLES: usize = 24;
 const REPEATS: usize = 15;
 const CALLS: [&str; 7] = ["solve", "from_canon", "from_stars", "is_simplest", "read_sheet", "write_sheet", "print"];
-const KINDS: [&str; 4] = ["full", "small", "sparse", "staircase"];
+const KINDS: [&str; 6] = ["full", "small", "sparse", "staircase", "stairs", "two-valued"];
 const SIZES: [usize; 3] = [8, 16, 32];
 
 extern "C" {
@@ -88,6 +89,9 @@ fn random_table(chance: &mut Chance, kind: &str, n: usize) -> Vec<i16> {
             table[i * n + j] = match kind {
                 "full" => chance.between(-100, 100) as i16,
                 "small" => chance.between(0, 3) as i16,
+                "stairs" if j <= i => 100 - (i % 3) as i16,
+                "two-valued" if chance.between(1, n as i64) == 1 => 100,
+                "stairs" | "two-valued" => -100,
                 _ if (i + turn) % n == j || chance.between(1, 4) == 1 => chance.between(-100, 100) as i16,
                 _ => ABSENT,
             };
@@ -295,11 +299,16 @@ fn median(mut values: Vec<f64>) -> f64 {
     values[values.len() / 2]
 }
 
+/// How often the jobs are done in one repeat: for two milliseconds.
+fn often(call: &str, jobs: &[Job], room: &mut Room) -> usize {
+    let trial = once(library, call, jobs, 1, room) * jobs.len() as f64;
+    (2000.0 / trial).ceil().max(1.0) as usize
+}
+
 /// The library's time and that of what stands beside it, each the median of repeats that take turns.
 fn measure(beside: Caller, call: &str, jobs: &[Job]) -> (f64, f64) {
     let mut room = Room::new();
-    let trial = once(library, call, jobs, 1, &mut room) * jobs.len() as f64;
-    let times = (2000.0 / trial).ceil().max(1.0) as usize;
+    let times = often(call, jobs, &mut room);
     let mut pairs = (Vec::new(), Vec::new());
     for _ in 0..REPEATS {
         pairs.0.push(once(library, call, jobs, times, &mut room));
@@ -322,6 +331,22 @@ fn print_times(beside: Caller, calls: &[&str]) {
                 println!("{call} {kind} {n} {own:.2} {other:.2}");
             }
         }
+    }
+}
+
+/// One repeat of `solve` for each kind and size on standard input, and its time on standard output.
+fn take_turns() {
+    let mut room = Room::new();
+    let mut last = (String::new(), Vec::new(), 0);
+    for line in std::io::stdin().lines() {
+        let line = line.expect("a line");
+        if line != last.0 {
+            let (kind, n) = line.split_once(' ').expect("a kind and a size");
+            let jobs = jobs(kind, n.parse().expect("N is a number"));
+            let times = often("solve", &jobs, &mut room);
+            last = (line, jobs, times);
+        }
+        println!("{:.4}", once(library, "solve", &last.1, last.2, &mut room));
     }
 }
 
@@ -364,7 +389,7 @@ fn counted(caller: Caller, call: &str, jobs: &[Job], room: &mut Room) -> ! {
     unsafe { _exit(0) }
 }
 
-/// Every table that is timed, a line each: its kind, N, and the greatest sum, then the entries row by row.
+/// Every table that is timed, a line each: its kind, N and the greatest sum, then the entries row by row.
 fn print_tables() {
     let mut room = Room::new();
     for kind in KINDS {
@@ -399,8 +424,9 @@ fn main() {
         }
         ["tables"] => println!("{TABLES}"),
         ["dump"] => print_tables(),
+        ["turns"] => take_turns(),
         _ => {
-            eprintln!("usage: bench times [CALL] | stack | tables | dump | count|spin CALL KIND N library|ordinary");
+            eprintln!("usage: bench times [CALL] | stack | tables | dump | turns | count|spin CALL KIND N library|ordinary");
             std::process::exit(2);
         }
     }

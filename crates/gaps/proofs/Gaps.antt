@@ -54,5 +54,5 @@ module _ (v h : ℤ) (l row g p : ℕ) where
 pub lesser-kept : (least : LeastGap) (g j : ℕ) → least .gap ≤ g → Lesser least g j least
 lesser-kept least g j le = record { one = inl refl; that = omega arith; this = le }
 
-pub lesser-taken : (least : LeastGap) (g j : ℕ) → g < least .gap → Lesser least g j (record { gap = g; column = j })
-lesser-taken least g j lt = record { one = inr (refl, refl); that = omega arith; this = omega arith }
+pub lesser-taken : (least : LeastGap) (g j : ℕ) → g ≤ least .gap → Lesser least g j (record { gap = g; column = j })
+lesser-taken least g j le = record { one = inr (refl, refl); that = omega arith; this = omega arith }

@@ -30,7 +30,7 @@ pub record Nearer (v : ℤ) (l : ℕ) (h : ℤ) (row g p g′ p′ : ℕ) : Type
   pub that : g′ ≤ g
   pub this : Present v → (g′ < no-gap) × ((v +ℤ pos (l + g′)) ≤ℤ h)
 
--- r is the lesser of a least gap and the gap g of column j
+-- r is the lesser of a least gap and the gap g of column j (which of two that are the same only saves time)
 pub record Lesser (least : LeastGap) (g j : ℕ) (r : LeastGap) : Type 0 where
   pub one : (r ≡ least) ⊎ ((r .gap ≡ g) × (r .column ≡ j))
   pub that : r .gap ≤ least .gap

@@ -47,19 +47,25 @@ pub struct LeastGap {
     pub column: usize,
 }
 
-// The lesser of the least gap and that of one more column. Rules out the greater of the two, and a gap with another column's
-// number.
-fn lesser(least: LeastGap, gap: u32, column: usize) -> LeastGap
+// The lesser of the least gap and that of one more column; of two that are the same, an unmarked column's, since a tree that reaches
+// one has come to its end. Rules out the greater of the two, and a gap with another column's number.
+fn lesser(least: LeastGap, gap: u32, column: usize, unmarked: bool) -> LeastGap
     ensures { λ r. ⌜ Lesser least gap column r ⌝ }
 {
-    if least.gap <= gap {
+    if least.gap < gap {
         return least;
+    }
+    if least.gap == gap {
+        if !unmarked {
+            return least;
+        }
     }
     LeastGap { gap, column }
 }
 
-// The least gap of the unreached columns, when one more row has joined the tree and the ways into them have taken it in. Rules out
-// a column passed over, and a way into a reached column changed.
+// The least gap of the unreached columns, when one more row has joined the tree and the ways into them have taken it in; `rows` are
+// the marks, by which an unmarked column goes before a marked one with the same gap. Rules out a column passed over, and a way into a
+// reached column changed.
 pub fn look(
     table: &[i16],
     n: usize,
@@ -67,6 +73,7 @@ pub fn look(
     additions: &[u32; ROWS],
     heads: &[i32; ROWS],
     reached: &[bool; ROWS],
+    rows: &[usize; ROWS],
     gaps: &mut [u32; ROWS],
     givers: &mut [usize; ROWS],
 ) -> LeastGap
@@ -101,7 +108,7 @@ pub fn look(
             let way = nearer(old, order, addition, heads[j], row);
             gaps[j] = way.gap;
             givers[j] = way.giver;
-            least = lesser(least, way.gap, j);
+            least = lesser(least, way.gap, j, n <= rows[j]);
         }
         j += 1;
     }

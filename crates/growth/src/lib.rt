@@ -55,6 +55,7 @@ fn reach(
             &*additions,
             &*heads,
             &reached,
+            rows,
             &mut gaps,
             &mut *givers,
         );

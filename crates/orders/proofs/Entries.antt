@@ -1,14 +1,13 @@
 -- What the tests of an entry tell. Assumes nothing.
 use mathlib.Core.Path.{_≡_, refl, sym, _∙_, ap}
-use mathlib.Core.Bool.{Bool, true, false}
+use mathlib.Core.Bool.{Bool, true, false, _&&_}
 use mathlib.Core.List.{List}
 use Prim.Native.Nat.{ℕ, _+_, _^_, _<_}
-use native.Mathlib.Decide.{ℕ-discrete}
 use native.Mathlib.Omega.{arith}
 use lib.Dec.{eqb}
 use lib.IntN.{ℤ, pos, negsuc, _+ℤ_, negℤ}
-use lib.ListN.{getD}
 use lib.Signed.{_≤ℤ_, ltZ, leZ, mag, _<ℤ_}
+use borrow.Author.Count.{below-more}
 use borrow.Author.Tests.{eqb-true, eqb-false}
 use mir.Syntax.{Width, w16, w32}
 use mir.Val.{SFits, ofZ, toZ, hbits}
@@ -63,10 +62,11 @@ entry-high v ne t =
       fails = λ e all. let o = all (present-bits v ne) in omega (arith, signed, o .high);
     }
 
--- one more entry that stands
-pub entries-more : (limit : ℕ) (t : List ℤ) (i : ℕ) → ((k : ℕ) → k < i → Present (getD t k (pos 0)) → Order limit (getD t k (pos 0)))
-    → (Present (getD t i (pos 0)) → Order limit (getD t i (pos 0))) → (k : ℕ) → k < i + 1 → Present (getD t k (pos 0)) → Order limit (getD t k (pos 0))
-entries-more limit t i below this k h = elim (ℕ-discrete k i) [ yes e ↦ rw e this | no ne ↦ below k (omega arith) ]
+-- a test of everything below i and a test of i itself, both in one
+pub tells-below : (P : ℕ → Type 0) (i : ℕ) (a b : Bool) → Tells a ((x : ℕ) → x < i → P x) → Tells b (P i) → Tells (a && b) ((x : ℕ) → x < i + 1 → P x)
+tells-below P i true b below this =
+    record { holds = λ e. below-more P i (below .holds refl) (this .holds e); fails = λ e all. this .fails e (all i (omega arith)) }
+tells-below P i false b below this = tells-no (λ all. below .fails refl (λ x h. all x (omega arith)))
 
 -- two signed numbers compared as the machine holds them
 pub read-le : {w : Width} {x y : ℤ} → SFits w x → SFits w y → leZ (toZ w (ofZ w x)) (toZ w (ofZ w y)) ≡ true → x ≤ℤ y

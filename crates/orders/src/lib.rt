@@ -71,19 +71,18 @@ pub fn entry_stands(v: i16) -> bool
     v <= ORDER
 }
 
-// Are all entries of a table absent, or orders within the limit? Rules out an entry passed over.
+// Are all entries of a table absent, or orders within the limit? Every entry is tested, also after one that does not stand: a loop
+// with one end is compiled to tests of several entries at once. Rules out an entry passed over.
 pub fn entries_stand(table: &[i16]) -> bool
     ensures { λ r. ⌜ Tells r (Entries order-limit (now (table .entry))) ⌝ }
 {
+    let mut all = true;
     let mut k = 0;
     while k < table.len() {
-        let v = table[k];
-        if !entry_stands(v) {
-            return false;
-        }
+        all = all & entry_stands(table[k]);
         k += 1;
     }
-    true
+    all
 }
 
 // What stands in row i and column j. Rules out row and column exchanged.

@@ -13,11 +13,11 @@ use Rattle.gaps.proofs.look.Statement.{statement}
 use Rattle.gaps.proofs.look.Tie as tie
 
 abbrev Inv-loop : tie.InvT-loop
-Inv-loop table n row additions heads reached gaps₀ givers₀ least₀ addition j₀ gaps givers least j =
+Inv-loop table n row additions heads reached rows gaps₀ givers₀ least₀ addition j₀ gaps givers least j =
     (j ≤ n) × Looking table n j row additions heads reached gaps₀ givers₀ gaps givers least
 
 abbrev μ-loop : tie.MeasureT-loop
-μ-loop table n row additions heads reached gaps₀ givers₀ least₀ addition j₀ gaps givers least j =
+μ-loop table n row additions heads reached rows gaps₀ givers₀ least₀ addition j₀ gaps givers least j =
     n - j
 
 mul-addition : tie.Need-mul-addition Inv-loop μ-loop
@@ -37,11 +37,11 @@ place-requires c κs =
     let s = c .before .before .before .before .before in
     (s .pre .square, s .pre .inside, omega arith)
 
-mul-t23 : tie.Need-mul-t23 Inv-loop μ-loop
-mul-t23 c = omega arith
+mul-t24 : tie.Need-mul-t24 Inv-loop μ-loop
+mul-t24 c = omega arith
 
-element-copy-out-t26 : tie.Need-element-copy-out-t26 Inv-loop μ-loop
-element-copy-out-t26 c = omega arith
+element-copy-out-t27 : tie.Need-element-copy-out-t27 Inv-loop μ-loop
+element-copy-out-t27 c = omega arith
 
 mul-gaps : tie.Need-mul-gaps Inv-loop μ-loop
 mul-gaps c = omega arith
@@ -75,6 +75,12 @@ mul-givers c = omega arith
 element-write-givers : tie.Need-element-write-givers Inv-loop μ-loop
 element-write-givers c = omega arith
 
+mul-lesser : tie.Need-mul-lesser Inv-loop μ-loop
+mul-lesser c = omega arith
+
+element-copy-out-lesser : tie.Need-element-copy-out-lesser Inv-loop μ-loop
+element-copy-out-lesser c = omega arith
+
 lesser-requires : tie.Need-lesser-requires Inv-loop μ-loop
 lesser-requires c κs = search needs
 
@@ -94,9 +100,9 @@ loop-again c =
       omega arith,
       elim (c .if1 .came) [
         | inl v ↦
-            rw (v .7, v .8, v .9)
-            (look-take w (omega (arith, s .pre .square .small)) (not-true _ (v .0 .taken)) (v .5 .result .gap) (v .5 .result .giver) (v .6 .result)
-            (rw (v .1 .ensures) at (simp (toZ-ofZ {w = w16} {z = v .1 .result} (sfits-of (v .1 .ok)), toZ-ofZ g) at (v .5 .ensures))) (v .6 .ensures))
+            rw (v .8, v .9, v .10)
+            (look-take w (omega (arith, s .pre .square .small)) (not-true _ (v .0 .taken)) (v .5 .result .gap) (v .5 .result .giver) (v .7 .result)
+            (rw (v .1 .ensures) at (simp (toZ-ofZ {w = w16} {z = v .1 .result} (sfits-of (v .1 .ok)), toZ-ofZ g) at (v .5 .ensures))) (v .7 .ensures))
         | inr v ↦ rw (v .1, v .2, v .3) (look-skip w (not-false _ (v .0 .left)))
       ],
     )
@@ -117,8 +123,8 @@ look-spec =
     loop-holds
     element-copy-out-if1
     place-requires
-    mul-t23
-    element-copy-out-t26
+    mul-t24
+    element-copy-out-t27
     mul-gaps
     element-copy-out-gaps
     mul-nearer
@@ -128,6 +134,8 @@ look-spec =
     element-write-gaps
     mul-givers
     element-write-givers
+    mul-lesser
+    element-copy-out-lesser
     lesser-requires
     add-j
     loop-less

@@ -1,41 +1,36 @@
--- The entries of a table are tested one after the other. Assumes nothing.
+-- Every entry of a table is tested. Assumes nothing.
+use mathlib.Core.Path.{_≡_}
 use Prim.Native.Nat.{ℕ, _-_, _≤_, _<_}
 use native.Mathlib.Omega.{arith}
 use borrow.Author.Needs.{needs}
-use borrow.Author.Tests.{not-true, not-false}
 use lib.IntN.{pos}
 use lib.ListN.{length, getD}
 use mir.Syntax.{w16}
 use Rattle.theory.specs.Table.{Present, Order}
 use Rattle.theory.specs.Limits.{order-limit}
-use Rattle.orders.proofs.Entries.{tells-yes, tells-no, back, entries-more}
+use Rattle.orders.specs.Tested.{Tells}
+use Rattle.orders.proofs.Entries.{tells-yes, tells-below, back}
 use Rattle.orders.proofs.entries_stand.Statement.{statement}
 use Rattle.orders.proofs.entries_stand.Tie as tie
 
 abbrev Inv-loop : tie.InvT-loop
-Inv-loop table k₀ k = (k ≤ length table) × ((x : ℕ) → x < k → Present (getD table x (pos 0)) → Order order-limit (getD table x (pos 0)))
+Inv-loop table all₀ k₀ all k =
+    (k ≤ length table) × Tells all ((x : ℕ) → x < k → Present (getD table x (pos 0)) → Order order-limit (getD table x (pos 0)))
 
 abbrev μ-loop : tie.MeasureT-loop
-μ-loop table k₀ k = length table - k
+μ-loop table all₀ k₀ all k = length table - k
 
 loop-holds : tie.Need-loop-holds Inv-loop μ-loop
-loop-holds c = (search needs, λ x h. absurd (omega arith))
+loop-holds c = (search needs, tells-yes (λ x h. absurd (omega arith)))
 
-mul-v : tie.Need-mul-v Inv-loop μ-loop
-mul-v c = search needs
+mul-entry-stands : tie.Need-mul-entry-stands Inv-loop μ-loop
+mul-entry-stands c = search needs
 
-shared-slice-copy-out-v : tie.Need-shared-slice-copy-out-v Inv-loop μ-loop
-shared-slice-copy-out-v c = search needs
+shared-slice-copy-out-entry-stands : tie.Need-shared-slice-copy-out-entry-stands Inv-loop μ-loop
+shared-slice-copy-out-entry-stands c = search needs
 
 entry-stands-requires : tie.Need-entry-stands-requires Inv-loop μ-loop
 entry-stands-requires c κs = search needs
-
-returns : tie.Need-returns Inv-loop μ-loop
-returns c =
-    let l = c .before .before .before .before .loop in
-    let t = c .before .before .before .before .before .args .table .now in
-    tells-no (λ all. (simp (back w16 (getD t (l .k) (pos 0)) (c .before .before .v .given)) at (c .before .entry-stands .ensures)) .fails
-    (not-true _ (c .if1 .taken)) (all (l .k) (search needs)))
 
 add-k : tie.Need-add-k Inv-loop μ-loop
 add-k c = search needs
@@ -45,16 +40,16 @@ loop-less c = search needs
 
 loop-again : tie.Need-loop-again Inv-loop μ-loop
 loop-again c =
-    let l = c .before .before .before .before .loop in
-    let t = c .before .before .before .before .before .args .table .now in (
+    let l = c .before .before .before .loop in
+    let t = c .before .before .before .before .args .table .now in (
       search needs,
-      entries-more order-limit t (l .k) (l .inv .1)
-          ((simp (back w16 (getD t (l .k) (pos 0)) (c .before .before .v .given)) at (c .before .entry-stands .ensures)) .holds
-          (not-false _ (c .if1 .left))),
+      tells-below _ (l .k) (l .all) (c .entry-stands .result) (l .inv .1) (simp (back w16 (getD t (l .k) (pos 0)) (c .before .entry-stands-arg .given)) at (c .entry-stands .ensures)),
     )
 
-returns-2 : tie.Need-returns-2 Inv-loop μ-loop
-returns-2 c = tells-yes (λ k h. c .before .loop .inv .1 k (omega arith))
+returns : tie.Need-returns Inv-loop μ-loop
+returns c =
+    let e : c .before .loop .k ≡ length (c .before .before .args .table .now) = omega arith in
+    rw e at (c .before .loop .inv .1)
 
 pub entries-stand-spec : {M : Type 1} → statement M
 entries-stand-spec =
@@ -63,11 +58,10 @@ entries-stand-spec =
     Inv-loop
     μ-loop
     loop-holds
-    mul-v
-    shared-slice-copy-out-v
+    mul-entry-stands
+    shared-slice-copy-out-entry-stands
     entry-stands-requires
-    returns
     add-k
     loop-less
     loop-again
-    returns-2)
+    returns)

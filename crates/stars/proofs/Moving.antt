@@ -3,17 +3,17 @@ use mathlib.Core.Path.{_≡_, refl, _∙_, ap}
 use mathlib.Core.Logic.{_≢_}
 use mathlib.Core.List.{List}
 use Prim.Native.Nat.{ℕ, _≤_, _<_}
-use native.Mathlib.Decide.{decLt}
+use native.Mathlib.Decide.{decLe, decLt}
 use native.Mathlib.Omega.{arith}
 use lib.IntN.{ℤ}
 use lib.ListN.{replicate, getD-replicate}
 use Rattle.theory.specs.Limits.{row-limit}
 use Rattle.theory.specs.Lists.{nums}
 use Rattle.theory.specs.Table.{entry}
-use Rattle.theory.specs.Canon.{Maximum}
+use Rattle.theory.specs.Canon.{Maximum, OfMaxima}
 use Rattle.theory.proofs.Exchange.{exchange}
 use Rattle.ways.specs.Search.{LeastColumn, Unsearched, Searched}
-use Rattle.stars.specs.Shift.{MarkArrays, MaximaIn, Swapped, Starred, Later}
+use Rattle.stars.specs.Shift.{MarkArrays, MaximaIn, Swapped, Starred, FirstCandidate, Later}
 use Rattle.ways.proofs.Joining.{root-found, root-alone}
 use Rattle.stars.proofs.Swapping.{swap-stores, swap-long-rows, swap-long-columns}
 use Rattle.stars.proofs.Shifting.{Shifting, of-marks, not-yet, shift-start, shift-less, shift-next, shift-maxima, shift-takes}
@@ -25,18 +25,37 @@ pub record ShiftingIn (t : List ℤ) (n : ℕ) (l : List ℕ) (i j : ℕ) (w₀ 
   pub long-columns : Long (w .columns)
   pub shift : Shifting n (entry t n) (nums l) i j (nums (w₀ .columns)) (nums step) (nums (w .rows)) (nums (w .columns)) k m
 
--- ---- a row that has no maximum before its own column in the column of a later row is starred as it stands
-pub starred-so : {t : List ℤ} {n : ℕ} {l : List ℕ} {w : MarkArrays} {i j : ℕ} {later : List ℕ} → MaximaIn t n l w → Later n i later → i < n
-    → LeastColumn n (entry t n) (nums l) (nums (w .rows)) (nums later) i (nums (w .columns) i) j → j ≡ nums (w .columns) i → Starred t n l w i w
-starred-so {t} {n} {l} {w} {i} {j} {later} maxima late hi b own = record {
-  maxima = maxima;
-  before = λ x h. refl;
-  first = λ τ of same.
-      exchange n (entry t n) (nums l) (nums (w .columns)) (nums (w .rows)) (maxima .marks .row) (maxima .marks .forth)
-      (λ k. 0 < nums later k) (λ k. decLt 0 (nums later k)) i (nums (w .columns) i) hi (late .late i hi (omega arith))
-      (λ m k h known lead. late .late k (lead .to) (omega arith))
-      (λ c h hc max known. b .none c (omega arith) max known) τ of same;
-}
+-- ---- the least column is an earlier one, or the own
+earlier-or-own : {n : ℕ} {a : ℕ → ℕ → ℤ} {l row-of eligible : ℕ → ℕ} {i own r : ℕ} → LeastColumn n a l row-of eligible i own r
+    → (P : ℕ → Type 0) → (r < own → P r) → P own → P r
+earlier-or-own {own = own} {r = r} b P less same = go (decLt r own)
+  where
+    go : Dec (r < own) → P r
+    go (yes h) = less h
+    go (no h) = let e : r ≡ own = omega (arith, b .within) in rw e same
+
+-- ---- the first candidate
+-- a transversal of maxima with the same rows before i has the first candidate or a later column in row i
+candidate-least : {t : List ℤ} {n : ℕ} {l : List ℕ} {w : MarkArrays} {i c : ℕ} → MaximaIn t n l w → i < n → FirstCandidate t n l w i c
+    → (τ : ℕ → ℕ) → OfMaxima n (entry t n) (nums l) τ → ((x : ℕ) → x < i → τ x ≡ nums (w .columns) x) → c ≤ τ i
+candidate-least {t} {n} {l} {w} {i} {c} maxima hi f =
+    exchange n (entry t n) (nums l) (nums (w .columns)) (nums (w .rows)) (maxima .marks .row) (maxima .marks .forth)
+    (λ k. i ≤ k) (λ k. decLe i k) i c hi (omega arith) (λ m k h known lead. omega arith) (λ j h hj max known. f .none j h max known)
+
+module _ {t : List ℤ} {n : ℕ} {l : List ℕ} {w : MarkArrays} {i j : ℕ} {later : List ℕ} (maxima : MaximaIn t n l w) (late : Later n i later) (hi : i < n)
+    (b : LeastColumn n (entry t n) (nums l) (nums (w .rows)) (nums later) i (nums (w .columns) i) j) where
+  -- the least column in which row i has a maximum and whose row is later, or else its own, is the first candidate
+  pub candidate : FirstCandidate t n l w i j
+  candidate = record {
+    inside = omega (arith, b .within, maxima .marks .column i hi);
+    maximum = earlier-or-own b (λ c. Maximum n (entry t n) (nums l) i c) (b .maximum) (maxima .of-maxima .maximum i hi);
+    none = λ x h max known.
+        b .none x h max (late .late (nums (w .rows) x) (maxima .marks .row x (omega (arith, b .within, maxima .marks .column i hi))) known);
+  }
+
+  -- a row whose own column is the first candidate is starred as it stands
+  pub starred-so : j ≡ nums (w .columns) i → Starred t n l w i w
+  starred-so own = record { maxima = maxima; before = λ x h. refl; first = rw own at (candidate-least maxima hi candidate) }
 
 -- ---- otherwise the ways are searched and the marks shifted
 -- arrays of zeros: no row is found yet
@@ -44,7 +63,7 @@ pub unsearched : {n : ℕ} → n ≤ row-limit → Unsearched n (replicate row-l
 unsearched small = record { long-next = refl; long-step = refl; none = λ x h. getD-replicate row-limit x 0 0 (omega arith) }
 
 module _ {t : List ℤ} {n : ℕ} {l : List ℕ} {i j : ℕ} {w₀ : MarkArrays} {next step : List ℕ} (small : n ≤ row-limit) (maxima : MaximaIn t n l w₀) (hi : i < n)
-    (s : Searched t n l i (w₀ .columns) next step)
+    {first : ℕ} (f : FirstCandidate t n l w₀ i first) (s : Searched t n l i (w₀ .columns) (nums (w₀ .rows) first) next step)
     (b : LeastColumn n (entry t n) (nums l) (nums (w₀ .rows)) (nums step) i (nums (w₀ .columns) i) j) where
   own : nums (w₀ .columns) i < n
   own = maxima .marks .column i hi
@@ -52,21 +71,26 @@ module _ {t : List ℤ} {n : ℕ} {l : List ℕ} {i j : ℕ} {w₀ : MarkArrays}
   pub chosen-below : j < n
   chosen-below = omega (arith, b .within, own)
 
-  -- the column chosen is an earlier one in the column of a row found, or the own one
-  chosen : (P : ℕ → Type 0) → (j < nums (w₀ .columns) i → P j) → P (nums (w₀ .columns) i) → P j
-  chosen P less same = go (decLt j (nums (w₀ .columns) i))
+  -- No transversal of maxima with the same rows before i has an earlier column in row i than the one chosen. If the row of the first
+  -- candidate is found, the column chosen is no later than that; else every row that can be reached is found.
+  chosen-least : (τ : ℕ → ℕ) → OfMaxima n (entry t n) (nums l) τ → ((x : ℕ) → x < i → τ x ≡ nums (w₀ .columns) x) → j ≤ τ i
+  chosen-least τ of same = go (decLt 0 (nums step (nums (w₀ .rows) first))) (decLe j first)
     where
-      go : Dec (j < nums (w₀ .columns) i) → P j
-      go (yes h) = less h
-      go (no h) = let e : j ≡ nums (w₀ .columns) i = omega (arith, b .within) in rw e same
+      go : Dec (0 < nums step (nums (w₀ .rows) first)) → Dec (j ≤ first) → j ≤ τ i
+      go (yes known) (yes h) = omega (arith, candidate-least maxima hi f τ of same)
+      go (yes known) (no h) = absurd (b .none first (omega arith) (f .maximum) known)
+      go (no h) d =
+          exchange n (entry t n) (nums l) (nums (w₀ .columns)) (nums (w₀ .rows)) (maxima .marks .row) (maxima .marks .forth)
+          (λ x. 0 < nums step x) (λ x. decLt 0 (nums step x)) i j hi (root-found (s .found .ways)) (s .all (omega arith))
+          (λ c h hc top known. b .none c h top known) τ of same
 
   pub move-start : ShiftingIn t n l i j w₀ step w₀ i (nums (w₀ .rows) j)
   move-start = record {
     long-rows = maxima .long-rows;
     long-columns = maxima .long-columns;
     shift = shift-start (maxima .marks) (s .found .ways) hi (maxima .of-maxima) chosen-below
-        (chosen (λ c. Maximum n (entry t n) (nums l) i c) (b .maximum) (maxima .of-maxima .maximum i hi))
-        (chosen (λ c. 0 < nums step (nums (w₀ .rows) c)) (b .eligible-row) (rw (maxima .marks .back i hi) (root-found (s .found .ways))));
+        (earlier-or-own b (λ c. Maximum n (entry t n) (nums l) i c) (b .maximum) (maxima .of-maxima .maximum i hi))
+        (earlier-or-own b (λ c. 0 < nums step (nums (w₀ .rows) c)) (b .eligible-row) (rw (maxima .marks .back i hi) (root-found (s .found .ways))));
   }
 
   module _ {w : MarkArrays} {k m : ℕ} (p : ShiftingIn t n l i j w₀ step w k m) where
@@ -101,9 +125,5 @@ module _ {t : List ℤ} {n : ℕ} {l : List ℕ} {i j : ℕ} {w₀ : MarkArrays}
             of-maxima = of-marks (p .shift .marks) max;
           };
           before = p .shift .before;
-          first = λ τ of same. rw takes (
-              exchange n (entry t n) (nums l) (nums (w₀ .columns)) (nums (w₀ .rows)) (maxima .marks .row) (maxima .marks .forth)
-              (λ x. 0 < nums step x) (λ x. decLt 0 (nums step x)) i j hi (root-found (s .found .ways))
-              (s .all)
-              (λ c h hc top known. b .none c h top known) τ of (λ x h. same x h ∙ p .shift .before x h));
+          first = λ τ of same. rw takes (chosen-least τ of (λ x h. same x h ∙ p .shift .before x h));
         }

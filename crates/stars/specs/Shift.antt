@@ -7,7 +7,7 @@ use lib.ListN.{set}
 use Rattle.theory.specs.Limits.{row-limit}
 use Rattle.theory.specs.Lists.{nums}
 use Rattle.theory.specs.Table.{entry}
-use Rattle.theory.specs.Canon.{OfMaxima}
+use Rattle.theory.specs.Canon.{Maximum, OfMaxima}
 use Rattle.orders.specs.Places.{Marks}
 use Rattle.orders.specs.Held.{Long}
 
@@ -47,6 +47,12 @@ pub record Starred (t : List ℤ) (n : ℕ) (l : List ℕ) (w : MarkArrays) (i :
   pub maxima : MaximaIn t n l r
   pub before : (x : ℕ) → x < i → nums (r .columns) x ≡ nums (w .columns) x
   pub first : FirstAt t n l (nums (r .columns)) i
+
+-- c is the first column that could be left to row i: row i has a maximum in it, and in no earlier column of row i or a later row
+pub record FirstCandidate (t : List ℤ) (n : ℕ) (l : List ℕ) (w : MarkArrays) (i c : ℕ) : Type 0 where
+  pub inside : c < n
+  pub maximum : Maximum n (entry t n) (nums l) i c
+  pub none : (j : ℕ) → j < c → Maximum n (entry t n) (nums l) i j → i ≤ nums (w .rows) j → ⊥
 
 -- every row from i on is eligible (that no other is only saves time)
 pub record Later (n i : ℕ) (eligible : List ℕ) : Type 0 where

@@ -5,7 +5,7 @@ ghost use Rattle.theory.specs.Canon.{Stars};
 ghost use Rattle.orders.specs.Places.{Marks};
 ghost use Rattle.orders.specs.Held.{CanonBy};
 ghost use Rattle.ways.specs.Given.{Given};
-ghost use Rattle.stars.specs.Shift.{mark-arrays, MaximaIn, Swappable, Swapped, Starred, Later};
+ghost use Rattle.stars.specs.Shift.{mark-arrays, MaximaIn, Swappable, Swapped, Starred, FirstCandidate, Later};
 use orders::ROWS;
 use ways::find_ways;
 use ways::least_column;
@@ -25,18 +25,23 @@ fn swap(k: usize, m: usize, rows: &mut [usize; ROWS], columns: &mut [usize; ROWS
 
 // Row i takes the first column that the rows before it leave to it, and the marks are shifted along the way from there to the column
 // that row i had: at each turn row k has that column, and exchanges it for the column of the next row m, up to row i itself, whose
-// step is 1. The contract rules out moving a row before i, and leaving row i at a column when a transversal of maxima with the same
-// rows before i has an earlier one.
+// step is 1. The search ends early where the row of column `first` is found: no earlier column could be left to row i. The contract
+// rules out moving a row before i, and leaving row i at a column when a transversal of maxima with the same rows before i has an
+// earlier one.
 fn shift(
     table: &[i16],
     n: usize,
     additions: &[u32; ROWS],
     heads: &[i32; ROWS],
     i: usize,
+    first: usize,
     rows: &mut [usize; ROWS],
     columns: &mut [usize; ROWS],
 )
-    requires { ⌜ Given (now table) n (now additions) (now heads) × MaximaIn (now table) n (now additions) (mark-arrays (now rows) (now columns)) × (i < n) ⌝ }
+    requires { ⌜ Given (now table) n (now additions) (now heads)
+        × MaximaIn (now table) n (now additions) (mark-arrays (now rows) (now columns))
+        × (i < n)
+        × FirstCandidate (now table) n (now additions) (mark-arrays (now rows) (now columns)) i first ⌝ }
     ensures { λ r. ⌜ Starred
         (now (table .entry))
         n
@@ -54,6 +59,7 @@ fn shift(
         heads,
         &*columns,
         i,
+        rows[first],
         &mut next,
         &mut step,
     );
@@ -96,7 +102,7 @@ fn star_row(
     if j == own {
         return;
     }
-    shift(table, n, additions, heads, i, &mut *rows, &mut *columns);
+    shift(table, n, additions, heads, i, j, &mut *rows, &mut *columns);
 }
 
 // The columns of the first complete transversal of column maxima, from the marks of any: one row after the other comes to the first

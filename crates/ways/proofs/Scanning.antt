@@ -102,13 +102,14 @@ module _ {t : List ℤ} {n : ℕ} {l : List ℕ} {i : ℕ} {columns : List ℕ} 
     pub search-row : at < w .count → (nums (w .queue) at < n) × (0 < nums (w .step) (nums (w .queue) at))
     search-row h = (s .ways .ways .row at h, omega (arith, s .ways .ways .numbered at h))
 
-    pub search-end : w .count ≤ at → Searched t n l i columns (w .next) (w .step)
+    -- the search is at its end where the row wanted is found, or every column of the queue is scanned
+    pub search-end : {wanted : ℕ} → (nums (w .step) wanted ≡ 0 → w .count ≤ at) → Searched t n l i columns wanted (w .next) (w .step)
     search-end end = record {
       queue = w .queue;
       count = w .count;
       found = s .ways;
-      all = λ m k h known lead.
+      all = λ none m k h known lead.
           let f = s .ways .ways in
-          let whole = s .scanned (nums (w .step) m - 1) (omega (arith, f .counted m (lead .from) known, end)) in
+          let whole = s .scanned (nums (w .step) m - 1) (omega (arith, f .counted m (lead .from) known, end none)) in
           (rw (f .queued m (lead .from) known) at whole) k h (lead .to) (lead .holds);
     }

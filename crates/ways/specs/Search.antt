@@ -86,9 +86,10 @@ pub record Unsearched (n : ℕ) (next step : List ℕ) : Type 0 where
   pub long-step : Long step
   pub none : (k : ℕ) → k < n → nums step k ≡ 0
 
--- every row after i to which a row found leads is found, in some order
-pub record Searched (t : List ℤ) (n : ℕ) (l : List ℕ) (i : ℕ) (column-of next step : List ℕ) : Type 0 where
+-- rows are found, in some order; and if the row wanted is not among them, then every row after i to which a row found leads is
+pub record Searched (t : List ℤ) (n : ℕ) (l : List ℕ) (i : ℕ) (column-of : List ℕ) (wanted : ℕ) (next step : List ℕ) : Type 0 where
   pub queue : List ℕ
   pub count : ℕ
   pub found : RowsFoundIn t n l i column-of (ways next step queue count)
-  pub all : (m k : ℕ) → i < k → 0 < nums step m → Leads n (Maximum n (entry t n) (nums l)) (nums column-of) m k → 0 < nums step k
+  pub all : nums step wanted ≡ 0
+      → (m k : ℕ) → i < k → 0 < nums step m → Leads n (Maximum n (entry t n) (nums l)) (nums column-of) m k → 0 < nums step k

@@ -50,9 +50,9 @@ pub fn least_column(
 {
     let mut j = 0;
     while j < own {
-        let row = rows[j];
-        if eligible[row] != 0 {
-            if tight(table, n, additions, heads, i, j) {
+        if tight(table, n, additions, heads, i, j) {
+            let row = rows[j];
+            if eligible[row] != 0 {
                 return j;
             }
         }
@@ -131,8 +131,9 @@ fn scan(
     found
 }
 
-// The rows from i on from which the column of row i can be reached: the columns of the rows found are scanned one after the other.
-// The contract rules out a search that stops while a column of a row found is not scanned.
+// The rows from i on from which the column of row i can be reached: the columns of the rows found are scanned one after the other,
+// until row `wanted` is found or none is left. The contract rules out a search that stops while the row wanted is not found and a
+// column of a row found is not scanned.
 pub fn find_ways(
     table: &[i16],
     n: usize,
@@ -140,16 +141,28 @@ pub fn find_ways(
     heads: &[i32; ROWS],
     columns: &[usize; ROWS],
     i: usize,
+    wanted: usize,
     next: &mut [usize; ROWS],
     step: &mut [usize; ROWS],
 )
-    requires { ⌜ Given (now table) n (now additions) (now heads) × Columns n i (now columns) × Unsearched n (now next) (now step) ⌝ }
-    ensures { λ r. ⌜ Searched (now (table .entry)) n (now (additions .entry)) i (now (columns .entry)) (now (next .exit)) (now (step .exit)) ⌝ }
+    requires { ⌜ Given (now table) n (now additions) (now heads)
+        × Columns n i (now columns)
+        × (wanted < n)
+        × Unsearched n (now next) (now step) ⌝ }
+    ensures { λ r. ⌜ Searched
+        (now (table .entry))
+        n
+        (now (additions .entry))
+        i
+        (now (columns .entry))
+        wanted
+        (now (next .exit))
+        (now (step .exit)) ⌝ }
 {
     let mut queue = [0usize; ROWS];
     let mut count = join(i, i, 0, &mut *next, &mut *step, &mut queue);
     let mut at = 0;
-    while at < count {
+    while at < count && step[wanted] == 0 {
         let m = queue[at];
         count = scan(
             table,

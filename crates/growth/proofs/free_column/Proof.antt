@@ -1,4 +1,4 @@
--- The unmarked columns are tried one after the other. Assumes nothing.
+-- The columns are tried one after the other. Assumes nothing.
 use Prim.Native.Nat.{_-_, _≤_}
 use native.Mathlib.Omega.{arith}
 use borrow.Author.Needs.{needs, sfits-of}
@@ -24,14 +24,8 @@ element-copy-out-addition c = omega arith
 loop-holds : tie.Need-loop-holds Inv-loop μ-loop
 loop-holds c = omega arith
 
-mul-if1 : tie.Need-mul-if1 Inv-loop μ-loop
-mul-if1 c = omega arith
-
-element-copy-out-if1 : tie.Need-element-copy-out-if1 Inv-loop μ-loop
-element-copy-out-if1 c = omega arith
-
 place-requires : tie.Need-place-requires Inv-loop μ-loop
-place-requires c κs = let s = c .before .before .before .before .before in (s .pre .0, s .pre .1, omega arith)
+place-requires c κs = let s = c .before .before .before in (s .pre .0, s .pre .1, omega arith)
 
 mul-tight : tie.Need-mul-tight Inv-loop μ-loop
 mul-tight c = omega arith
@@ -40,16 +34,23 @@ element-copy-out-tight : tie.Need-element-copy-out-tight Inv-loop μ-loop
 element-copy-out-tight c = omega arith
 
 tight-requires : tie.Need-tight-requires Inv-loop μ-loop
-tight-requires c κs = c .before .before .before .before .before .before .before .pre .2
+tight-requires c κs = c .before .before .before .before .before .pre .2
+
+mul-if2 : tie.Need-mul-if2 Inv-loop μ-loop
+mul-if2 c = omega arith
+
+element-copy-out-if2 : tie.Need-element-copy-out-if2 Inv-loop μ-loop
+element-copy-out-if2 c = omega arith
 
 returns : tie.Need-returns Inv-loop μ-loop
 returns c inside =
     let s = c .before .before .before .before .before .before .before .before .before in
     let o = c .before .before .before .before .before .before .before .loop in
-    let p = c .before .before .before .place in
+    let p = c .before .before .before .before .before .place in
+    let told = c .before .before .before .tight .ensures .holds (c .before .before .if1 .taken) in
     let h : SFits w32 (ints (s .args .heads .now) (o .j)) = search needs in
-    let m = rw (p .ensures) at (simp (toZ-ofZ {w = w16} {z = p .result} (sfits-of (p .ok)), toZ-ofZ h) at (c .before .tight .ensures .holds (c .if2 .taken))) in
-    record { unmarked = c .before .before .before .before .if1 .taken; tight = record { present = m .0; is = m .1 } }
+    let m = rw (p .ensures) at (simp (toZ-ofZ {w = w16} {z = p .result} (sfits-of (p .ok)), toZ-ofZ h) at told) in
+    record { unmarked = c .if2 .taken; tight = record { present = m .0; is = m .1 } }
 
 add-j : tie.Need-add-j Inv-loop μ-loop
 add-j c = omega arith
@@ -72,12 +73,12 @@ free-column-spec =
     mul-addition
     element-copy-out-addition
     loop-holds
-    mul-if1
-    element-copy-out-if1
     place-requires
     mul-tight
     element-copy-out-tight
     tight-requires
+    mul-if2
+    element-copy-out-if2
     returns
     add-j
     loop-less

@@ -1,6 +1,6 @@
 -- A row is starred as it stands, or the marks are shifted. Assumes nothing.
 use borrow.Author.Needs.{needs}
-use Rattle.stars.proofs.Moving.{starred-so}
+use Rattle.stars.proofs.Moving.{candidate, starred-so}
 use Rattle.stars.proofs.star_row.Statement.{statement}
 use Rattle.stars.proofs.star_row.Tie as tie
 
@@ -22,7 +22,9 @@ returns c =
     starred-so (p .1) (p .2) (p .3) (c .before .least-column .ensures) (c .if1 .taken)
 
 shift-requires : tie.Need-shift-requires
-shift-requires c κs = search needs
+shift-requires c κs =
+    let p = c .before .before .before .before .before .before .pre in
+    (p .0, p .1, p .3, candidate (p .1) (p .2) (p .3) (c .before .before .before .least-column .ensures))
 
 returns-2 : tie.Need-returns-2
 returns-2 c = search needs

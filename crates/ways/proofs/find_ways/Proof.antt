@@ -1,7 +1,8 @@
--- The columns of the rows in the queue are scanned one after the other, until none is left. Assumes nothing.
+-- The columns of the rows in the queue are scanned one after the other, until the row wanted is found or none is left. Assumes nothing.
 use mathlib.Core.Path.{refl}
 use Prim.Native.Nat.{_-_}
 use native.Mathlib.Omega.{arith}
+use borrow.Author.Tests.{eqb-false}
 use Rattle.ways.specs.Search.{ways}
 use Rattle.ways.proofs.Joining.{queue-below}
 use Rattle.ways.proofs.Scanning.{SearchedTo, search-start, search-row, search-next, search-end}
@@ -9,11 +10,11 @@ use Rattle.ways.proofs.find_ways.Statement.{statement}
 use Rattle.ways.proofs.find_ways.Tie as tie
 
 abbrev Inv-loop : tie.InvT-loop
-Inv-loop table n additions heads columns i next₀ step₀ queue₀ count₀ at₀ next step queue count at =
+Inv-loop table n additions heads columns i wanted next₀ step₀ queue₀ count₀ at₀ next step queue count at =
     SearchedTo table n additions i columns at (ways next step queue count)
 
 abbrev μ-loop : tie.MeasureT-loop
-μ-loop table n additions heads columns i next₀ step₀ queue₀ count₀ at₀ next step queue count at = n - at
+μ-loop table n additions heads columns i wanted next₀ step₀ queue₀ count₀ at₀ next step queue count at = n - at
 
 join-requires : tie.Need-join-requires Inv-loop μ-loop
 join-requires c κs =
@@ -23,19 +24,29 @@ join-requires c κs =
 loop-holds : tie.Need-loop-holds Inv-loop μ-loop
 loop-holds c =
     let p = c .before .before .before .before .pre in
-    search-start (p .0 .square .small) (p .1 .row) (record { next = p .2 .long-next; step = p .2 .long-step; queue = refl }) (p .2 .none) refl
+    search-start (p .0 .square .small) (p .1 .row) (record { next = p .3 .long-next; step = p .3 .long-step; queue = refl }) (p .3 .none) refl
     (c .join .ensures)
 
+mul-if1 : tie.Need-mul-if1 Inv-loop μ-loop
+mul-if1 c = let p = c .before .before .before .before .before .before .pre in omega (arith, p .2, p .0 .square .small)
+
+element-copy-out-if1 : tie.Need-element-copy-out-if1 Inv-loop μ-loop
+element-copy-out-if1 c = let p = c .before .before .before .before .before .before .pre in omega (arith, p .2, p .0 .square .small)
+
 mul-m : tie.Need-mul-m Inv-loop μ-loop
-mul-m c = omega (arith, queue-below (c .before .loop .inv .ways .ways), c .before .before .before .before .before .before .pre .0 .square .small)
+mul-m c =
+    let p = c .before .before .before .before .before .before .before .before .pre in
+    omega (arith, queue-below (c .before .before .before .loop .inv .ways .ways), p .0 .square .small)
 
 array-read-m : tie.Need-array-read-m Inv-loop μ-loop
-array-read-m c = omega (arith, queue-below (c .before .loop .inv .ways .ways), c .before .before .before .before .before .before .pre .0 .square .small)
+array-read-m c =
+    let p = c .before .before .before .before .before .before .before .before .pre in
+    omega (arith, queue-below (c .before .before .before .loop .inv .ways .ways), p .0 .square .small)
 
 scan-requires : tie.Need-scan-requires Inv-loop μ-loop
 scan-requires c κs =
-    let p = c .before .before .before .before .before .before .before .before .before .pre in
-    let s = c .before .before .before .before .loop .inv in
+    let p = c .before .before .before .before .before .before .before .before .before .before .before .pre in
+    let s = c .before .before .before .before .before .before .loop .inv in
     let row = search-row s (omega arith) in
     (p .0, p .1, row .0, row .1, s .ways)
 
@@ -43,13 +54,16 @@ add-at : tie.Need-add-at Inv-loop μ-loop
 add-at c = omega arith
 
 loop-less : tie.Need-loop-less Inv-loop μ-loop
-loop-less c = omega (arith, queue-below (c .before .before .before .before .before .loop .inv .ways .ways))
+loop-less c = omega (arith, queue-below (c .before .before .before .before .before .before .before .loop .inv .ways .ways))
 
 loop-again : tie.Need-loop-again Inv-loop μ-loop
-loop-again c = search-next (c .before .before .before .before .before .loop .inv) (omega arith) (c .scan .ensures)
+loop-again c = search-next (c .before .before .before .before .before .before .before .loop .inv) (omega arith) (c .scan .ensures)
 
 returns : tie.Need-returns Inv-loop μ-loop
-returns c = search-end (c .before .loop .inv) (omega arith)
+returns c = search-end (c .before .before .before .loop .inv) (λ none. absurd (eqb-false _ _ (c .if1 .left) none))
+
+returns-2 : tie.Need-returns-2 Inv-loop μ-loop
+returns-2 c = search-end (c .before .loop .inv) (λ none. omega arith)
 
 pub find-ways-spec : {M : Type 1} → statement M
 find-ways-spec =
@@ -59,10 +73,13 @@ find-ways-spec =
     μ-loop
     join-requires
     loop-holds
+    mul-if1
+    element-copy-out-if1
     mul-m
     array-read-m
     scan-requires
     add-at
     loop-less
     loop-again
-    returns)
+    returns
+    returns-2)

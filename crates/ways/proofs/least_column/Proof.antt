@@ -19,31 +19,31 @@ abbrev μ-loop : tie.MeasureT-loop
 loop-holds : tie.Need-loop-holds Inv-loop μ-loop
 loop-holds c = (omega arith, λ x h m e. absurd (omega arith))
 
+tight-requires : tie.Need-tight-requires Inv-loop μ-loop
+tight-requires c κs = let p = c .before .before .pre in (p .0, p .1, omega arith)
+
 mul-row : tie.Need-mul-row Inv-loop μ-loop
-mul-row c = omega (arith, c .before .before .pre .0 .square .small)
+mul-row c = omega (arith, c .before .before .before .before .pre .0 .square .small)
 
 element-copy-out-row : tie.Need-element-copy-out-row Inv-loop μ-loop
-element-copy-out-row c = omega (arith, c .before .before .pre .0 .square .small)
+element-copy-out-row c = omega (arith, c .before .before .before .before .pre .0 .square .small)
 
-mul-if1 : tie.Need-mul-if1 Inv-loop μ-loop
-mul-if1 c =
-    let s = c .before .before .before in
-    omega (arith, s .pre .3 (c .before .before .loop .j) (omega arith), s .pre .0 .square .small)
+mul-if2 : tie.Need-mul-if2 Inv-loop μ-loop
+mul-if2 c =
+    let p = c .before .before .before .before .before .pre in
+    omega (arith, p .3 (c .before .before .before .before .loop .j) (omega arith), p .0 .square .small)
 
-element-copy-out-if1 : tie.Need-element-copy-out-if1 Inv-loop μ-loop
-element-copy-out-if1 c =
-    let s = c .before .before .before in
-    omega (arith, s .pre .3 (c .before .before .loop .j) (omega arith), s .pre .0 .square .small)
-
-tight-requires : tie.Need-tight-requires Inv-loop μ-loop
-tight-requires c κs = let s = c .before .before .before .before .before in (s .pre .0, s .pre .1, omega arith)
+element-copy-out-if2 : tie.Need-element-copy-out-if2 Inv-loop μ-loop
+element-copy-out-if2 c =
+    let p = c .before .before .before .before .before .pre in
+    omega (arith, p .3 (c .before .before .before .before .loop .j) (omega arith), p .0 .square .small)
 
 returns : tie.Need-returns Inv-loop μ-loop
 returns c =
     record {
       within = omega arith;
-      maximum = λ h. c .before .tight .ensures .holds (c .if2 .taken);
-      eligible-row = λ h. omega (arith, c .before .before .if1 .taken);
+      maximum = λ h. c .before .before .before .before .tight .ensures .holds (c .before .before .before .if1 .taken);
+      eligible-row = λ h. omega (arith, c .if2 .taken);
       none = c .before .before .before .before .before .before .loop .inv .1;
     }
 
@@ -56,8 +56,8 @@ loop-less c = omega arith
 loop-again : tie.Need-loop-again Inv-loop μ-loop
 loop-again c = (
   omega arith,
-  below-more _ _ (c .before .before .before .before .loop .inv .1)
-      (elim (c .if1 .came) [ inl w ↦ λ m e. w .1 .ensures .fails (w .2 .left) m | inr w ↦ λ m e. omega (arith, w .left) ]),
+  below-more _ _ (c .before .before .before .loop .inv .1)
+      (elim (c .if1 .came) [ inl w ↦ λ m e. omega (arith, w .3 .left) | inr w ↦ λ m e. c .before .tight .ensures .fails (w .left) m ]),
 )
 
 returns-2 : tie.Need-returns-2 Inv-loop μ-loop
@@ -76,11 +76,11 @@ least-column-spec =
     Inv-loop
     μ-loop
     loop-holds
+    tight-requires
     mul-row
     element-copy-out-row
-    mul-if1
-    element-copy-out-if1
-    tight-requires
+    mul-if2
+    element-copy-out-if2
     returns
     add-j
     loop-less

@@ -2,9 +2,10 @@
 """bench/assignment.py BENCH: scipy's linear_sum_assignment beside the library's `solve` on the tables of the benchmark.
 
 It finds a transversal of greatest sum and no more: no canon, no first stars. The sums are held against the library's. The two
-take turns, so that what slows the machine slows both. Prints a line for each kind and size: the median times of scipy and of
+take turns on one processor, so that what slows it slows both. Prints a line for each kind and size: the median times of scipy and of
 `solve` in microseconds, and the median ratio of two times in turn, its quarter and its three quarters.
 """
+import os
 import statistics
 import subprocess
 import sys
@@ -42,6 +43,7 @@ def one_time(tables, rounds):
 
 def main():
     bench = sys.argv[1]
+    os.sched_setaffinity(0, {max(os.sched_getaffinity(0))})
     groups = tables_of(bench)
     solving = subprocess.Popen([bench, "turns"], stdin=subprocess.PIPE, stdout=subprocess.PIPE, text=True)
     for (kind, n), tables in groups.items():

@@ -1,6 +1,5 @@
 #!/usr/bin/env python3
-"""Lines of a call, a kind, a size and two times, run several times | bench/ratios.py: for each call, kind and size the median of the ratios,
-the least and the greatest."""
+"""bench beside, run several times | bench/beside.py: for each call, kind and size the median of the ratios, the least and the greatest."""
 import statistics
 import sys
 

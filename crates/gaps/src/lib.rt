@@ -47,18 +47,15 @@ pub struct LeastGap {
     pub column: usize,
 }
 
-// The lesser of the least gap and that of one more column; of two that are the same, an unmarked column's, since a tree that reaches
-// one has come to its end. Rules out the greater of the two, and a gap with another column's number.
+// The lesser of the least gap and that of one more column. A marked column's counts as one more, so that of two that are the same an
+// unmarked column's is taken: a tree that reaches one has come to its end. One comparison decides, since it is compiled to no branch.
+// Rules out the greater of the two, and a gap with another column's number.
 fn lesser(least: LeastGap, gap: u32, column: usize, unmarked: bool) -> LeastGap
     ensures { λ r. ⌜ Lesser least gap column r ⌝ }
 {
-    if least.gap < gap {
+    let more: u64 = if unmarked { 0 } else { 1 };
+    if (least.gap as u64) < gap as u64 + more {
         return least;
-    }
-    if least.gap == gap {
-        if !unmarked {
-            return least;
-        }
     }
     LeastGap { gap, column }
 }

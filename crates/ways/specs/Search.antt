@@ -32,9 +32,17 @@ module _ (n : ℕ) (a : ℕ → ℕ → ℤ) (l : ℕ → ℕ) where
     pub found : (k : ℕ) → k < n → 0 < step k → k ≢ i → 0 < step (next k)
     pub nearer : (k : ℕ) → k < n → 0 < step k → k ≢ i → step (next k) < step k
 
-  -- the rows after i and before k that have a maximum in the column are found
-  abbrev pub ScannedTo : (i column : ℕ) (step : ℕ → ℕ) (k : ℕ) → Type 0
-  ScannedTo i column step k = (x : ℕ) → i < x → x < k → Maximum n a l x column → 0 < step x
+  -- the rows after i that have a maximum in the column are found
+  abbrev pub AllFound : (i column : ℕ) (step : ℕ → ℕ) → Type 0
+  AllFound i column step = (x : ℕ) → i < x → x < n → Maximum n a l x column → 0 < step x
+
+-- Behind the rows found the queue holds the rows after i that are not, each once: as many rows as there are from i on.
+pub record RowsLeft (n i : ℕ) (step queue : ℕ → ℕ) (count : ℕ) : Type 0 where
+  pub few : i + count ≤ n
+  pub row : (p : ℕ) → count ≤ p → i + p < n → queue p < n
+  pub later : (p : ℕ) → count ≤ p → i + p < n → i < queue p
+  pub none : (p : ℕ) → count ≤ p → i + p < n → step (queue p) ≡ 0
+  pub apart : (p q : ℕ) → count ≤ p → i + p < n → count ≤ q → i + q < n → queue p ≡ queue q → p ≡ q
 
 -- what was found stays as it was
 pub record MoreFound (n : ℕ) (step queue : ℕ → ℕ) (count : ℕ) (step′ queue′ : ℕ → ℕ) (count′ : ℕ) : Type 0 where
@@ -63,6 +71,11 @@ pub record LongWays (w : Ways) : Type 0 where
   pub step : Long (w .step)
   pub queue : Long (w .queue)
 
+-- the rows from i on, one after the other
+pub record RowsFrom (n i : ℕ) (queue : List ℕ) : Type 0 where
+  pub long : Long queue
+  pub row : (p : ℕ) → i + p < n → nums queue p ≡ i + p
+
 -- row k has joined, with a step to row m
 pub record Joined (w : Ways) (k m : ℕ) (r : Ways) : Type 0 where
   pub next : r .next ≡ set (w .next) k m
@@ -73,12 +86,13 @@ pub record Joined (w : Ways) (k m : ℕ) (r : Ways) : Type 0 where
 pub record RowsFoundIn (t : List ℤ) (n : ℕ) (l : List ℕ) (i : ℕ) (column-of : List ℕ) (w : Ways) : Type 0 where
   pub long : LongWays w
   pub ways : RowsFound n (entry t n) (nums l) i (nums column-of) (nums (w .next)) (nums (w .step)) (nums (w .queue)) (w .count)
+  pub left : RowsLeft n i (nums (w .step)) (nums (w .queue)) (w .count)
 
--- more rows are found, and all rows before k that have a maximum in the column of row m
-pub record Scanned (t : List ℤ) (n : ℕ) (l : List ℕ) (i : ℕ) (column-of : List ℕ) (m k : ℕ) (w r : Ways) : Type 0 where
+-- more rows are found, and all rows after i that have a maximum in the column of row m
+pub record Scanned (t : List ℤ) (n : ℕ) (l : List ℕ) (i : ℕ) (column-of : List ℕ) (m : ℕ) (w r : Ways) : Type 0 where
   pub ways : RowsFoundIn t n l i column-of r
   pub grown : MoreFound n (nums (w .step)) (nums (w .queue)) (w .count) (nums (r .step)) (nums (r .queue)) (r .count)
-  pub all : ScannedTo n (entry t n) (nums l) i (nums column-of m) (nums (r .step)) k
+  pub all : AllFound n (entry t n) (nums l) i (nums column-of m) (nums (r .step))
 
 -- no row is found yet
 pub record Unsearched (n : ℕ) (next step : List ℕ) : Type 0 where

@@ -1,11 +1,11 @@
-ghost use Prim.Native.Nat.{ℕ, _<_};
+ghost use Prim.Native.Nat.{ℕ, _≤_, _<_};
 ghost use Rattle.theory.specs.Limits.{row-limit};
 ghost use Rattle.theory.specs.Lists.{nums};
 ghost use Rattle.theory.specs.Table.{entry};
 ghost use Rattle.theory.specs.Canon.{Maximum};
 ghost use Rattle.orders.specs.Tested.{Tells};
 ghost use Rattle.ways.specs.Given.{Given};
-ghost use Rattle.ways.specs.Search.{LeastColumn, Columns, ways, Joined, RowsFoundIn, Scanned, Unsearched, Searched};
+ghost use Rattle.ways.specs.Search.{LeastColumn, Columns, ways, RowsFrom, Joined, RowsFoundIn, Scanned, Unsearched, Searched};
 use orders::ROWS;
 
 // Is the place of row i and column j a column maximum? It is when it is present and the raised order is the column's head. The
@@ -61,8 +61,23 @@ pub fn least_column(
     own
 }
 
-// The rows from which the column of one row can be reached by column maxima are held as they are found: row queue[p] has step p + 1
-// and goes on to the column of row next, which was found before it. The row itself is the first; a row that is not found has step 0.
+// The rows from which the column of row i can be reached by column maxima are held as they are found: row queue[p] has step p + 1
+// and goes on to the column of row next, which was found before it. Row i itself is the first; a row that is not found has step 0. The
+// later rows that are not found stand in the queue behind those that are.
+
+// Row i and the later rows, one after the other. Rules out a row left out.
+fn rows_from(n: usize, i: usize) -> [usize; ROWS]
+    requires { ⌜ n ≤ row-limit ⌝ }
+    ensures { λ r. ⌜ RowsFrom n i r ⌝ }
+{
+    let mut queue = [0usize; ROWS];
+    let mut k = i;
+    while k < n {
+        queue[k - i] = k;
+        k += 1;
+    }
+    queue
+}
 
 // Row k joins, with a step to row m: the count of the rows found. Rules out another row's step or way changed.
 fn join(
@@ -86,8 +101,9 @@ fn join(
     count + 1
 }
 
-// The rows after i that have a maximum in the column of row m join: the count of the rows found. The contract rules out a row left
-// out, a row before i, and a row whose way does not lead on to rows found before it.
+// The rows after i that have a maximum in the column of row m join: the count of the rows found. The rows behind are tried, one after
+// the other; one that joins changes places with the first of them. The contract rules out a row left out or lost, a row before i, and a
+// row whose way does not lead on to rows found before it.
 fn scan(
     table: &[i16],
     n: usize,
@@ -113,20 +129,19 @@ fn scan(
         i
         (now (columns .entry))
         m
-        n
         (ways (now (next .entry)) (now (step .entry)) (now (queue .entry)) count)
         (ways (now (next .exit)) (now (step .exit)) (now (queue .exit)) r) ⌝ }
 {
     let column = columns[m];
     let mut found = count;
-    let mut k = i + 1;
-    while k < n {
-        if step[k] == 0 {
-            if tight(table, n, additions, heads, k, column) {
-                found = join(k, m, found, &mut *next, &mut *step, &mut *queue);
-            }
+    let mut p = count;
+    while p < n - i {
+        let k = queue[p];
+        if tight(table, n, additions, heads, k, column) {
+            queue[p] = queue[found];
+            found = join(k, m, found, &mut *next, &mut *step, &mut *queue);
         }
-        k += 1;
+        p += 1;
     }
     found
 }
@@ -159,7 +174,7 @@ pub fn find_ways(
         (now (next .exit))
         (now (step .exit)) ⌝ }
 {
-    let mut queue = [0usize; ROWS];
+    let mut queue = rows_from(n, i);
     let mut count = join(i, i, 0, &mut *next, &mut *step, &mut queue);
     let mut at = 0;
     while at < count && step[wanted] == 0 {

@@ -4,8 +4,7 @@ use Prim.Native.Nat.{_-_}
 use native.Mathlib.Omega.{arith}
 use borrow.Author.Tests.{eqb-false}
 use Rattle.ways.specs.Search.{ways}
-use Rattle.ways.proofs.Joining.{queue-below}
-use Rattle.ways.proofs.Scanning.{SearchedTo, search-start, search-row, search-next, search-end}
+use Rattle.ways.proofs.Scanning.{SearchedTo, search-start, search-below, search-row, search-next, search-end}
 use Rattle.ways.proofs.find_ways.Statement.{statement}
 use Rattle.ways.proofs.find_ways.Tie as tie
 
@@ -16,36 +15,40 @@ Inv-loop table n additions heads columns i wanted next₀ step₀ queue₀ count
 abbrev μ-loop : tie.MeasureT-loop
 μ-loop table n additions heads columns i wanted next₀ step₀ queue₀ count₀ at₀ next step queue count at = n - at
 
+rows-from-requires : tie.Need-rows-from-requires Inv-loop μ-loop
+rows-from-requires c κs = c .pre .0 .square .small
+
 join-requires : tie.Need-join-requires Inv-loop μ-loop
 join-requires c κs =
-    let p = c .before .before .before .pre in
+    let p = c .before .before .before .before .pre in
     (omega (arith, p .0 .square .small, p .1 .row), omega arith)
 
 loop-holds : tie.Need-loop-holds Inv-loop μ-loop
 loop-holds c =
-    let p = c .before .before .before .before .pre in
-    search-start (p .0 .square .small) (p .1 .row) (record { next = p .3 .long-next; step = p .3 .long-step; queue = refl }) (p .3 .none) refl
-    (c .join .ensures)
+    let p = c .before .before .before .before .before .pre in
+    let rows = c .before .before .before .before .rows-from .ensures in
+    search-start (p .0 .square .small) (p .1 .row) (record { next = p .3 .long-next; step = p .3 .long-step; queue = rows .long }) (p .3 .none)
+    (rows .row) refl (c .join .ensures)
 
 mul-if1 : tie.Need-mul-if1 Inv-loop μ-loop
-mul-if1 c = let p = c .before .before .before .before .before .before .pre in omega (arith, p .2, p .0 .square .small)
+mul-if1 c = let p = c .before .before .before .before .before .before .before .pre in omega (arith, p .2, p .0 .square .small)
 
 element-copy-out-if1 : tie.Need-element-copy-out-if1 Inv-loop μ-loop
-element-copy-out-if1 c = let p = c .before .before .before .before .before .before .pre in omega (arith, p .2, p .0 .square .small)
+element-copy-out-if1 c = let p = c .before .before .before .before .before .before .before .pre in omega (arith, p .2, p .0 .square .small)
 
 mul-m : tie.Need-mul-m Inv-loop μ-loop
 mul-m c =
-    let p = c .before .before .before .before .before .before .before .before .pre in
-    omega (arith, queue-below (c .before .before .before .loop .inv .ways .ways), p .0 .square .small)
+    let p = c .before .before .before .before .before .before .before .before .before .pre in
+    omega (arith, search-below (c .before .before .before .loop .inv), p .0 .square .small)
 
 array-read-m : tie.Need-array-read-m Inv-loop μ-loop
 array-read-m c =
-    let p = c .before .before .before .before .before .before .before .before .pre in
-    omega (arith, queue-below (c .before .before .before .loop .inv .ways .ways), p .0 .square .small)
+    let p = c .before .before .before .before .before .before .before .before .before .pre in
+    omega (arith, search-below (c .before .before .before .loop .inv), p .0 .square .small)
 
 scan-requires : tie.Need-scan-requires Inv-loop μ-loop
 scan-requires c κs =
-    let p = c .before .before .before .before .before .before .before .before .before .before .before .pre in
+    let p = c .before .before .before .before .before .before .before .before .before .before .before .before .pre in
     let s = c .before .before .before .before .before .before .loop .inv in
     let row = search-row s (omega arith) in
     (p .0, p .1, row .0, row .1, s .ways)
@@ -54,7 +57,7 @@ add-at : tie.Need-add-at Inv-loop μ-loop
 add-at c = omega arith
 
 loop-less : tie.Need-loop-less Inv-loop μ-loop
-loop-less c = omega (arith, queue-below (c .before .before .before .before .before .before .before .loop .inv .ways .ways))
+loop-less c = omega (arith, search-below (c .before .before .before .before .before .before .before .loop .inv))
 
 loop-again : tie.Need-loop-again Inv-loop μ-loop
 loop-again c = search-next (c .before .before .before .before .before .before .before .loop .inv) (omega arith) (c .scan .ensures)
@@ -71,6 +74,7 @@ find-ways-spec =
     (tie.spec
     Inv-loop
     μ-loop
+    rows-from-requires
     join-requires
     loop-holds
     mul-if1

@@ -67,14 +67,14 @@ pub fn least_column(
 
 // Row i and the later rows, one after the other. Rules out a row left out.
 fn rows_from(n: usize, i: usize) -> [usize; ROWS]
-    requires { ⌜ n ≤ row-limit ⌝ }
+    requires { ⌜ (n ≤ row-limit) × (i < n) ⌝ }
     ensures { λ r. ⌜ RowsFrom n i r ⌝ }
 {
     let mut queue = [0usize; ROWS];
-    let mut k = i;
-    while k < n {
-        queue[k - i] = k;
-        k += 1;
+    let mut p = 0;
+    while p < n - i {
+        queue[p] = i + p;
+        p += 1;
     }
     queue
 }
@@ -134,14 +134,14 @@ fn scan(
 {
     let column = columns[m];
     let mut found = count;
-    let mut p = count;
-    while p < n - i {
-        let k = queue[p];
+    let mut behind = count;
+    while behind < n - i {
+        let k = queue[behind];
         if tight(table, n, additions, heads, k, column) {
-            queue[p] = queue[found];
+            queue[behind] = queue[found];
             found = join(k, m, found, &mut *next, &mut *step, &mut *queue);
         }
-        p += 1;
+        behind += 1;
     }
     found
 }

@@ -16,7 +16,7 @@ abbrev μ-loop : tie.MeasureT-loop
 μ-loop table n additions heads columns i wanted next₀ step₀ queue₀ count₀ at₀ next step queue count at = n - at
 
 rows-from-requires : tie.Need-rows-from-requires Inv-loop μ-loop
-rows-from-requires c κs = c .pre .0 .square .small
+rows-from-requires c κs = (c .pre .0 .square .small, c .pre .1 .row)
 
 join-requires : tie.Need-join-requires Inv-loop μ-loop
 join-requires c κs =

@@ -8,11 +8,11 @@ use Rattle.ways.proofs.scan.Statement.{statement}
 use Rattle.ways.proofs.scan.Tie as tie
 
 abbrev Inv-loop : tie.InvT-loop
-Inv-loop table n additions heads columns i m count next₀ step₀ queue₀ column found₀ p₀ next step queue found p =
-    ScannedTo table n additions i columns m p (ways next₀ step₀ queue₀ count) (ways next step queue found)
+Inv-loop table n additions heads columns i m count next₀ step₀ queue₀ column found₀ behind₀ next step queue found behind =
+    ScannedTo table n additions i columns m behind (ways next₀ step₀ queue₀ count) (ways next step queue found)
 
 abbrev μ-loop : tie.MeasureT-loop
-μ-loop table n additions heads columns i m count next₀ step₀ queue₀ column found₀ p₀ next step queue found p = n - i - p
+μ-loop table n additions heads columns i m count next₀ step₀ queue₀ column found₀ behind₀ next step queue found behind = n - i - behind
 
 mul-column : tie.Need-mul-column Inv-loop μ-loop
 mul-column c = omega (arith, c .pre .0 .square .small)
@@ -27,8 +27,8 @@ sub-loop : tie.Need-sub-loop Inv-loop μ-loop
 sub-loop c = omega (arith, c .before .before .pre .1 .row)
 
 -- the place is one of a row that is not found
-behind : (c : tie.In-loop Inv-loop μ-loop) → c .before .before .before .args .i + c .before .loop .p < c .before .before .before .args .n
-behind c = omega arith
+inside : (c : tie.In-loop Inv-loop μ-loop) → c .before .before .before .args .i + c .before .loop .behind < c .before .before .before .args .n
+inside c = omega arith
 
 mul-k : tie.Need-mul-k Inv-loop μ-loop
 mul-k c = omega (arith, c .before .before .before .pre .0 .square .small)
@@ -39,7 +39,7 @@ element-copy-out-k c = omega (arith, c .before .before .before .pre .0 .square .
 tight-requires : tie.Need-tight-requires Inv-loop μ-loop
 tight-requires c κs =
     let s = c .before .before .before .before in
-    (s .pre .0, scan-row (c .before .before .loop .inv) (behind (c .before)) .1, s .pre .1 .column (s .args .m) (s .pre .2))
+    (s .pre .0, scan-row (c .before .before .loop .inv) (inside (c .before)) .1, s .pre .1 .column (s .args .m) (s .pre .2))
 
 mul-queue : tie.Need-mul-queue Inv-loop μ-loop
 mul-queue c = omega (arith, c .before .before .before .before .loop .inv .behind, c .before .before .before .before .before .before .pre .0 .square .small)
@@ -58,11 +58,11 @@ join-requires : tie.Need-join-requires Inv-loop μ-loop
 join-requires c κs =
     let small = c .before .before .before .before .before .before .before .before .before .before .pre .0 .square .small in
     let s = c .before .before .before .before .before .before .before .before .loop .inv in
-    let row = scan-row s (behind (c .before .before .before .before .before .before .before)) in
+    let row = scan-row s (inside (c .before .before .before .before .before .before .before)) in
     (omega (arith, row .1), omega (arith, s .behind))
 
-add-p : tie.Need-add-p Inv-loop μ-loop
-add-p c = omega (arith, c .before .before .before .before .before .before .pre .0 .square .small)
+add-behind : tie.Need-add-behind Inv-loop μ-loop
+add-behind c = omega (arith, c .before .before .before .before .before .before .pre .0 .square .small)
 
 loop-less : tie.Need-loop-less Inv-loop μ-loop
 loop-less c = omega arith
@@ -74,7 +74,7 @@ loop-again c =
     let told = c .before .tight .ensures in
     elim (c .if1 .came) [
       | inl w ↦ rw (w .6, w .7, w .8, w .9)
-          (scan-join o (s .pre .0 .square .small) (behind (c .before .before .before)) (s .pre .2) (s .pre .3)
+          (scan-join o (s .pre .0 .square .small) (inside (c .before .before .before)) (s .pre .2) (s .pre .3)
           (s .pre .1 .column (s .args .m) (s .pre .2)) (told .holds (w .0 .taken)) (w .5 .ensures))
       | inr w ↦ rw (w .1, w .2, w .3, w .4) (scan-next o (told .fails (w .0 .left)))
     ]
@@ -100,7 +100,7 @@ scan-spec =
     mul-queue-2
     element-write-queue
     join-requires
-    add-p
+    add-behind
     loop-less
     loop-again
     returns)

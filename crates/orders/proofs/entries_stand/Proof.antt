@@ -41,10 +41,9 @@ loop-less c = search needs
 loop-again : tie.Need-loop-again Inv-loop μ-loop
 loop-again c =
     let l = c .before .before .before .loop in
-    let t = c .before .before .before .before .args .table .now in (
-      search needs,
-      tells-below _ (l .k) (l .all) (c .entry-stands .result) (l .inv .1) (simp (back w16 (getD t (l .k) (pos 0)) (c .before .entry-stands-arg .given)) at (c .entry-stands .ensures)),
-    )
+    let v = getD (c .before .before .before .before .args .table .now) (l .k) (pos 0) in
+    let told = simp (back w16 v (c .before .entry-stands-arg .given)) at (c .entry-stands .ensures) in
+    (search needs, tells-below _ (l .k) (l .all) (c .entry-stands .result) (l .inv .1) told)
 
 returns : tie.Need-returns Inv-loop μ-loop
 returns c =

@@ -58,7 +58,9 @@ loop-holds c =
     move-start (p .0 .square .small) (p .1) (p .2) (p .3) (c .before .before .before .before .before .find-ways .ensures) (c .before .least-column .ensures)
 
 mul-loop : tie.Need-mul-loop Inv-loop μ-loop
-mul-loop c = omega (arith, c .before .before .before .before .before .before .before .before .before .before .before .pre .0 .square .small, c .loop .inv .shift .goal)
+mul-loop c =
+    let p = c .before .before .before .before .before .before .before .before .before .before .before .pre in
+    omega (arith, p .0 .square .small, c .loop .inv .shift .goal)
 
 array-read-loop : tie.Need-array-read-loop Inv-loop μ-loop
 array-read-loop c =
@@ -95,7 +97,8 @@ loop-less c =
     let p = c .before .before .before .before .before .before .before .before .before .before .before .before .before .before .before .pre in
     let ways = c .before .before .before .before .before .before .before .before .before .before .find-ways .ensures in
     let chosen = c .before .before .before .before .before .before .least-column .ensures in
-    move-less (p .0 .square .small) (p .1) (p .2) (p .3) ways chosen (c .before .before .before .before .loop .inv) (c .before .before .before .loop-test .taken)
+    move-less (p .0 .square .small) (p .1) (p .2) (p .3) ways chosen (c .before .before .before .before .loop .inv)
+    (c .before .before .before .loop-test .taken)
 
 loop-again : tie.Need-loop-again Inv-loop μ-loop
 loop-again c =

@@ -2,8 +2,9 @@
 """bench/assignment.py BENCH: scipy's linear_sum_assignment beside the library's `solve` on the tables of the benchmark.
 
 It finds a transversal of greatest sum and no more: no canon, no first stars. The sums are held against the library's. The two
-take turns on one processor, so that what slows it slows both. Prints a line for each kind and size: the median times of scipy and of
-`solve` in microseconds, and the median ratio of two times in turn, its quarter and its three quarters.
+take turns on one processor, so that what slows it slows both. scipy is called as a user of Python calls it, and its time is that of the
+whole call; `solve` is called from Rust. Prints a line for each kind and size: the median times of scipy and of `solve` in
+microseconds, then the time of `solve` over that of scipy in the same turn: the median, the lower quartile and the upper.
 """
 import os
 import statistics

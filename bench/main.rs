@@ -5,7 +5,7 @@
 //! stack: the stack that each call uses. bench count CALL KIND N WHO: the call on every table once, inside the function
 //! `counted`, for callgrind. bench tables: how many tables that is. bench spin CALL KIND N WHO: the same many times over,
 //! for a sampling profiler. The answers of the two are compared first. bench dump: the tables themselves. bench turns: for
-//! each kind and size on standard input one more time of `solve`, so that another program can take turns with this one.
+//! each kind and size on standard input the time of one repeat of `solve`, so that another program can take turns with this one.
 
 mod ordinary;
 
@@ -13,7 +13,7 @@ const ABSENT: i16 = -32768;
 const TABLES: usize = 24;
 const REPEATS: usize = 15;
 const CALLS: [&str; 7] = ["solve", "from_canon", "from_stars", "is_simplest", "read_sheet", "write_sheet", "print"];
-const KINDS: [&str; 6] = ["full", "small", "sparse", "staircase", "stairs", "two-valued"];
+const KINDS: [&str; 6] = ["full", "small", "sparse", "staircase", "regular-stairs", "two-valued"];
 const SIZES: [usize; 3] = [8, 16, 32];
 
 extern "C" {
@@ -78,6 +78,7 @@ impl Room {
     }
 }
 
+/// A table of a kind. Regular stairs have no chance in them: all of a size are the same.
 fn random_table(chance: &mut Chance, kind: &str, n: usize) -> Vec<i16> {
     let mut table = vec![ABSENT; n * n];
     if kind == "staircase" {
@@ -89,9 +90,9 @@ fn random_table(chance: &mut Chance, kind: &str, n: usize) -> Vec<i16> {
             table[i * n + j] = match kind {
                 "full" => chance.between(-100, 100) as i16,
                 "small" => chance.between(0, 3) as i16,
-                "stairs" if j <= i => 100 - (i % 3) as i16,
+                "regular-stairs" if j <= i => 100 - (i % 3) as i16,
                 "two-valued" if chance.between(1, n as i64) == 1 => 100,
-                "stairs" | "two-valued" => -100,
+                "regular-stairs" | "two-valued" => -100,
                 _ if (i + turn) % n == j || chance.between(1, 4) == 1 => chance.between(-100, 100) as i16,
                 _ => ABSENT,
             };

@@ -47,9 +47,10 @@ pub struct LeastGap {
     pub column: usize,
 }
 
-// The lesser of the least gap and that of one more column. A marked column's counts as one more, so that of two that are the same an
-// unmarked column's is taken: a tree that reaches one has come to its end. One comparison decides, since it is compiled to no branch.
-// Rules out the greater of the two, and a gap with another column's number.
+// The lesser of the least gap and that of one more column. Of two that are the same the new one is taken if its column is unmarked,
+// since a tree that reaches an unmarked column has come to its end: a marked column has to be nearer, so its gap counts as one more (in
+// 64 bits, since one more than NO_GAP is no u32). One comparison decides, so that it can be compiled without a branch. Rules out the
+// greater of the two, and a gap with another column's number.
 fn lesser(least: LeastGap, gap: u32, column: usize, unmarked: bool) -> LeastGap
     ensures { λ r. ⌜ Lesser least gap column r ⌝ }
 {
@@ -60,9 +61,9 @@ fn lesser(least: LeastGap, gap: u32, column: usize, unmarked: bool) -> LeastGap
     LeastGap { gap, column }
 }
 
-// The least gap of the unreached columns, when one more row has joined the tree and the ways into them have taken it in; `rows` are
-// the marks, by which an unmarked column goes before a marked one with the same gap. Rules out a column passed over, and a way into a
-// reached column changed.
+// The least gap of the unreached columns, when one more row has joined the tree and the ways into them have taken it in. By the marks
+// `rows` an unmarked column goes before a marked one with the same gap, which only saves time and is not promised. Rules out a column
+// passed over, and a way into a reached column changed.
 pub fn look(
     table: &[i16],
     n: usize,

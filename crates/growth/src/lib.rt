@@ -82,9 +82,9 @@ fn reach(
     }
 }
 
-// An unmarked column in which row s is tight as it stands, or ROWS where none is found. Tightness is tested first, since it mostly
-// fails, and a test that mostly comes out one way costs the processor least. Rules out a column that is marked, and one in which the
-// row is absent or below the head.
+// An unmarked column in which row s is tight as it stands, or ROWS where none is found. Tightness is tested first: on tables with few
+// ties it mostly fails, and a test that mostly comes out one way costs the processor least. Rules out a column that is marked, and one
+// in which the row is absent or below the head.
 fn free_column(
     table: &[i16],
     n: usize,

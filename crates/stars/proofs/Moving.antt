@@ -35,7 +35,7 @@ earlier-or-own {own = own} {r = r} b P less same = go (decLt r own)
     go (no h) = let e : r ≡ own = omega (arith, b .within) in rw e same
 
 -- ---- the first candidate
--- a transversal of maxima with the same rows before i has the first candidate or a later column in row i
+-- a transversal of maxima with the same columns in the rows before i has the first candidate or a later column in row i
 candidate-least : {t : List ℤ} {n : ℕ} {l : List ℕ} {w : MarkArrays} {i c : ℕ} → MaximaIn t n l w → i < n → FirstCandidate t n l w i c
     → (τ : ℕ → ℕ) → OfMaxima n (entry t n) (nums l) τ → ((x : ℕ) → x < i → τ x ≡ nums (w .columns) x) → c ≤ τ i
 candidate-least {t} {n} {l} {w} {i} {c} maxima hi f =
@@ -71,8 +71,8 @@ module _ {t : List ℤ} {n : ℕ} {l : List ℕ} {i j : ℕ} {w₀ : MarkArrays}
   pub chosen-below : j < n
   chosen-below = omega (arith, b .within, own)
 
-  -- No transversal of maxima with the same rows before i has an earlier column in row i than the one chosen. If the row of the first
-  -- candidate is found, the column chosen is no later than that; else every row that can be reached is found.
+  -- No transversal of maxima with the same columns in the rows before i has an earlier column in row i than the one chosen. If the row
+  -- of the first candidate is found, the column chosen is no later than that; else every row that can be reached is found.
   chosen-least : (τ : ℕ → ℕ) → OfMaxima n (entry t n) (nums l) τ → ((x : ℕ) → x < i → τ x ≡ nums (w₀ .columns) x) → j ≤ τ i
   chosen-least τ of same = go (decLt 0 (nums step (nums (w₀ .rows) first))) (decLe j first)
     where

@@ -48,7 +48,8 @@ pub record Starred (t : List ℤ) (n : ℕ) (l : List ℕ) (w : MarkArrays) (i :
   pub before : (x : ℕ) → x < i → nums (r .columns) x ≡ nums (w .columns) x
   pub first : FirstAt t n l (nums (r .columns)) i
 
--- c is the first column that could be left to row i: row i has a maximum in it, and in no earlier column of row i or a later row
+-- row i has a maximum in column c, and no column before c could be left to row i: where it has a maximum there, an earlier row has the
+-- column
 pub record FirstCandidate (t : List ℤ) (n : ℕ) (l : List ℕ) (w : MarkArrays) (i c : ℕ) : Type 0 where
   pub inside : c < n
   pub maximum : Maximum n (entry t n) (nums l) i c

@@ -25,9 +25,9 @@ fn swap(k: usize, m: usize, rows: &mut [usize; ROWS], columns: &mut [usize; ROWS
 
 // Row i takes the first column that the rows before it leave to it, and the marks are shifted along the way from there to the column
 // that row i had: at each turn row k has that column, and exchanges it for the column of the next row m, up to row i itself, whose
-// step is 1. The search ends early where the row of column `first` is found: no earlier column could be left to row i. The contract
-// rules out moving a row before i, and leaving row i at a column when a transversal of maxima with the same rows before i has an
-// earlier one.
+// step is 1. No column before `first` could be left to row i; once the row of that column is found, row i takes it, and the search
+// stops. The contract rules out moving a row before i, and leaving row i at a column when a transversal of maxima with the same columns
+// before i has an earlier one.
 fn shift(
     table: &[i16],
     n: usize,

@@ -13,7 +13,7 @@ use Rattle.orders.proofs.Stores.{Put}
 
 -- the rows at the places from `count` to p have no maximum in the column
 abbrev pub Passed : (n : ℕ) (a : ℕ → ℕ → ℤ) (l queue : ℕ → ℕ) (column count p : ℕ) → Type 0
-Passed n a l queue column count p = (q : ℕ) → count ≤ q → q < p → Maximum n a l (queue q) column → ⊥
+Passed n a l queue column count p = (q : ℕ) → q < p → count ≤ q → Maximum n a l (queue q) column → ⊥
 
 module _ {n : ℕ} {a : ℕ → ℕ → ℤ} {l : ℕ → ℕ} {i : ℕ} {σ next step queue : ℕ → ℕ} {count : ℕ} (w : RowsFound n a l i σ next step queue count) where
   -- row i is found, and it alone has step 1: every other row found goes on to one with a smaller step
@@ -45,7 +45,7 @@ module _ {n : ℕ} {a : ℕ → ℕ → ℤ} {l : ℕ → ℕ} {i : ℕ} {σ nex
         go (no a) = (omega (arith, left .later p (omega arith) h), left .row p (omega arith) h)
 
     -- so that by the pigeonhole every row from i on stands in it
-    pub queue-every : (x : ℕ) → i ≤ x → x < n → (p : ℕ) × (i + p < n) × (queue p ≡ x)
+    queue-every : (x : ℕ) → i ≤ x → x < n → (p : ℕ) × (i + p < n) × (queue p ≡ x)
     queue-every x low high = go (onto (n - i) (λ p. queue p - i) apart inside (x - i) (omega arith))
       where
         apart : (p q : ℕ) → p < n - i → q < n - i → queue p - i ≡ queue q - i → p ≡ q
@@ -110,8 +110,8 @@ module _ {n : ℕ} {a : ℕ → ℕ → ℤ} {l : ℕ → ℕ} {i : ℕ} {σ nex
         | no ne ↦ rw (ps .off x ne, pn .off x ne) (old x hx (was x ne h) ni)
       ]
 
-      -- One more row is found: row k, to which row m leads, joins at the end of the queue. Rows found before keep their
-      -- steps and their next rows, and m's step is below k's, which is the greatest.
+      -- One more row is found: row k, to which row m leads, joins at the end of the rows found. Those keep their steps and their next
+      -- rows, and m's step is below k's, which is the greatest.
       pub found-more : RowsFound n a l i σ next′ step′ queue′ (count + 1)
       found-more = record {
         root = kept i (omega (arith, w .root)) ∙ w .root;
@@ -149,22 +149,21 @@ module _ {n : ℕ} {a : ℕ → ℕ → ℤ} {l : ℕ → ℕ} {i : ℕ} {σ nex
         kept = λ x hx h. rw (kept x (g .kept x hx h)) (g .kept x hx h);
       }
 
-      -- The rows left are those that were, but for k. What holds of them behind is shown of the places that have their rows, and of
-      -- place b, which has the row of place `count`.
-      each-left : (P : ℕ → ℕ → Type 0) → ((p q : ℕ) → count < p → i + p < n → count ≤ q → i + q < n → q ≢ b → queue′ p ≡ queue q → P p (queue q))
-          → (p : ℕ) → count < p → i + p < n → P p (queue′ p)
+      -- a place behind has now a row that a place behind other than b had: its own, or b that of place `count`
+      each-left : (P : ℕ → Type 0) → ((q : ℕ) → count ≤ q → i + q < n → q ≢ b → P (queue q)) → (p : ℕ) → count < p → i + p < n → P (queue′ p)
       each-left P of p h hp = elim (ℕ-discrete p b) [
-        | yes e ↦ rw (ap queue′ e ∙ changed (omega arith)) (of p count h hp (omega arith) (omega arith) (omega arith) (ap queue′ e ∙ changed (omega arith)))
-        | no ne ↦ rw (further p h ne) (of p p h hp (omega arith) hp ne (further p h ne))
+        | yes e ↦ rw (ap queue′ e ∙ changed (omega arith)) (of count (omega arith) (omega arith) (omega arith))
+        | no ne ↦ rw (further p h ne) (of p (omega arith) hp ne)
       ]
 
+      -- so the rows left are those that were, but for k
       pub left-fewer : RowsLeft n i step′ queue′ (count + 1)
       left-fewer = record {
         few = omega arith;
-        row = λ p h hp. each-left (λ p x. x < n) (λ p q hp h hq h′ ne e. left .row q hq h′) p (omega arith) hp;
-        later = λ p h hp. each-left (λ p x. i < x) (λ p q hp h hq h′ ne e. left .later q hq h′) p (omega arith) hp;
-        none = λ p h hp. each-left (λ p x. step′ x ≡ 0)
-            (λ p q hp h hq h′ ne e. ps .off (queue q) (λ d. ne (left .apart q b hq h′ behind inside (d ∙ sym is))) ∙ left .none q hq h′) p (omega arith) hp;
+        row = λ p h hp. each-left (λ x. x < n) (λ q h′ hq ne. left .row q h′ hq) p (omega arith) hp;
+        later = λ p h hp. each-left (λ x. i < x) (λ q h′ hq ne. left .later q h′ hq) p (omega arith) hp;
+        none = λ p h hp. each-left (λ x. step′ x ≡ 0)
+            (λ q h′ hq ne. ps .off (queue q) (λ d. ne (left .apart q b h′ hq behind inside (d ∙ sym is))) ∙ left .none q h′ hq) p (omega arith) hp;
         apart = λ p q h hp h′ hq e. go p q (omega arith) hp (omega arith) hq e (ℕ-discrete p b) (ℕ-discrete q b);
       }
         where
@@ -186,7 +185,7 @@ module _ {n : ℕ} {a : ℕ → ℕ → ℤ} {l : ℕ → ℕ} {i : ℕ} {σ nex
 
       -- the rows at the places behind that were passed have no maximum in the column, and k is none of them now
       pub passed-found : {column : ℕ} → Passed n a l queue column count b → Passed n a l queue′ column (count + 1) (b + 1)
-      passed-found s p h hp = elim (ℕ-discrete p b) [
+      passed-found s p hp h = elim (ℕ-discrete p b) [
         | yes e ↦ rw (ap queue′ e ∙ changed (omega arith)) (s count (omega arith) (omega arith))
         | no ne ↦ rw (further p (omega arith) ne) (s p (omega arith) (omega arith))
       ]

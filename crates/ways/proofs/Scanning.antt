@@ -5,6 +5,7 @@ use mathlib.Core.Logic.{_≢_}
 use Prim.Native.Nat.{ℕ, _+_, _-_, _≤_, _<_}
 use native.Mathlib.Decide.{ℕ-discrete}
 use native.Mathlib.Omega.{arith}
+use borrow.Author.Count.{below-more}
 use lib.IntN.{ℤ}
 use lib.ListN.{length, set, length-set}
 use Rattle.theory.specs.Limits.{row-limit}
@@ -38,7 +39,7 @@ pub record ScannedTo (t : List ℤ) (n : ℕ) (l : List ℕ) (i : ℕ) (column-o
   pub behind : r .count ≤ p
   pub passed : Passed n (entry t n) (nums l) (nums (r .queue)) (nums column-of m) (r .count) p
 
--- the columns of the first `at` rows of the queue are scanned
+-- the columns of the first `at` rows found are scanned
 pub record SearchedTo (t : List ℤ) (n : ℕ) (l : List ℕ) (i : ℕ) (column-of : List ℕ) (at : ℕ) (w : Ways) : Type 0 where
   pub ways : RowsFoundIn t n l i column-of w
   pub scanned : (p : ℕ) → p < at → AllFound n (entry t n) (nums l) i (nums column-of (nums (w .queue) p)) (nums (w .step))
@@ -54,15 +55,15 @@ module _ {t : List ℤ} {n : ℕ} {l : List ℕ} {i : ℕ} {columns : List ℕ} 
   }
 
   module _ {m p : ℕ} {w r : Ways} (s : ScannedTo t n l i columns m p w r) where
-    pub scan-row : i + p < n → (i < nums (r .queue) p) × (nums (r .queue) p < n)
-    scan-row inside = (s .ways .left .later p (s .behind) inside, s .ways .left .row p (s .behind) inside)
+    pub scan-row : i + p < n → nums (r .queue) p < n
+    scan-row inside = s .ways .left .row p (s .behind) inside
 
     pub scan-next : (Maximum n (entry t n) (nums l) (nums (r .queue) p) (nums columns m) → ⊥) → ScannedTo t n l i columns m (p + 1) w r
     scan-next new = record {
       ways = s .ways;
       grown = s .grown;
       behind = omega (arith, s .behind);
-      passed = λ q h b. elim (ℕ-discrete q p) [ yes e ↦ rw e new | no ne ↦ s .passed q h (omega arith) ];
+      passed = below-more _ p (s .passed) (λ h. new);
     }
 
     pub scan-join : {r′ : Ways} → n ≤ row-limit → i + p < n → m < n → 0 < nums (w .step) m → nums columns m < n
@@ -77,7 +78,7 @@ module _ {t : List ℤ} {n : ℕ} {l : List ℕ} {i : ℕ} {columns : List ℕ} 
         let k = nums (r .queue) p in
         let queue₁ = set (r .queue) p (nums (r .queue) (r .count)) in
         let long₁ : Long queue₁ = length-set (r .queue) p (nums (r .queue) (r .count)) ∙ long .queue in
-        let hk = scan-row inside .1 in
+        let hk = scan-row inside in
         let known′ = s .grown .kept m hm known in
         let other : k ≢ m = λ e. omega (arith, ap (nums (r .step)) e, left .none p b inside) in
         let lead : Leads n (Maximum n (entry t n) (nums l)) (nums columns) m k = record { from = hm; column = column; to = hk; another = other; holds = max } in
@@ -99,7 +100,7 @@ module _ {t : List ℤ} {n : ℕ} {l : List ℕ} {i : ℕ} {columns : List ℕ} 
     pub scan-end : n ≤ i + p → Scanned t n l i columns m w r
     scan-end end = record { ways = s .ways; grown = s .grown; all = passed-all (s .ways .ways) (s .ways .left) p end (s .passed) }
 
-  -- ---- all columns of the queue are scanned
+  -- ---- the columns of all rows found are scanned
   pub search-start : {w r : Ways} → n ≤ row-limit → i < n → LongWays w → ((x : ℕ) → x < n → nums (w .step) x ≡ 0)
       → ((p : ℕ) → i + p < n → nums (w .queue) p ≡ i + p) → w .count ≡ 0 → Joined w i i r → SearchedTo t n l i columns 0 r
   search-start {w} {r} small hi long none rows zero j =
@@ -135,7 +136,7 @@ module _ {t : List ℤ} {n : ℕ} {l : List ℕ} {i : ℕ} {columns : List ℕ} 
     pub search-row : at < w .count → (nums (w .queue) at < n) × (0 < nums (w .step) (nums (w .queue) at))
     search-row h = (s .ways .ways .row at h, omega (arith, s .ways .ways .numbered at h))
 
-    -- the search is at its end where the row wanted is found, or every column of the queue is scanned
+    -- the search is at its end where the row wanted is found, or the column of every row found is scanned
     pub search-end : {wanted : ℕ} → (nums (w .step) wanted ≡ 0 → w .count ≤ at) → Searched t n l i columns wanted (w .next) (w .step)
     search-end end = record {
       queue = w .queue;

@@ -36,7 +36,8 @@ module _ (n : ℕ) (a : ℕ → ℕ → ℤ) (l : ℕ → ℕ) where
   abbrev pub AllFound : (i column : ℕ) (step : ℕ → ℕ) → Type 0
   AllFound i column step = (x : ℕ) → i < x → x < n → Maximum n a l x column → 0 < step x
 
--- Behind the rows found the queue holds the rows after i that are not, each once: as many rows as there are from i on.
+-- From place `count` to place n − i the queue holds rows after i that are not found, no two the same: all of them, if before place
+-- `count` it holds the rows found.
 pub record RowsLeft (n i : ℕ) (step queue : ℕ → ℕ) (count : ℕ) : Type 0 where
   pub few : i + count ≤ n
   pub row : (p : ℕ) → count ≤ p → i + p < n → queue p < n
@@ -100,7 +101,7 @@ pub record Unsearched (n : ℕ) (next step : List ℕ) : Type 0 where
   pub long-step : Long step
   pub none : (k : ℕ) → k < n → nums step k ≡ 0
 
--- rows are found, in some order; and if the row wanted is not among them, then every row after i to which a row found leads is
+-- rows are found, in some order; and if the row wanted is not among them, then every row after i to which a row found leads is found
 pub record Searched (t : List ℤ) (n : ℕ) (l : List ℕ) (i : ℕ) (column-of : List ℕ) (wanted : ℕ) (next step : List ℕ) : Type 0 where
   pub queue : List ℕ
   pub count : ℕ

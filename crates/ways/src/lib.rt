@@ -61,11 +61,11 @@ pub fn least_column(
     own
 }
 
-// The rows from which the column of row i can be reached by column maxima are held as they are found: row queue[p] has step p + 1
-// and goes on to the column of row next, which was found before it. Row i itself is the first; a row that is not found has step 0. The
-// later rows that are not found stand in the queue behind those that are.
+// The rows from which the column of row i can be reached by column maxima are held as they are found: the row at place p of the queue
+// has step p + 1 and goes on to the column of row next, which was found before it. Row i itself is the first. Behind the rows found
+// the queue holds the later rows that are not found, which have step 0.
 
-// Row i and the later rows, one after the other. Rules out a row left out.
+// Row i and the later rows, one after the other. Rules out a row left out, and one before i.
 fn rows_from(n: usize, i: usize) -> [usize; ROWS]
     requires { ⌜ (n ≤ row-limit) × (i < n) ⌝ }
     ensures { λ r. ⌜ RowsFrom n i r ⌝ }
@@ -101,9 +101,9 @@ fn join(
     count + 1
 }
 
-// The rows after i that have a maximum in the column of row m join: the count of the rows found. The rows behind are tried, one after
-// the other; one that joins changes places with the first of them. The contract rules out a row left out or lost, a row before i, and a
-// row whose way does not lead on to rows found before it.
+// The rows after i that have a maximum in the column of row m join: the count of the rows found. The rows not yet found are tried, one
+// after the other; one that joins changes places with the first of them. The contract rules out a row left out or lost, a row before i,
+// and a row whose way does not lead on to rows found before it.
 fn scan(
     table: &[i16],
     n: usize,
@@ -134,21 +134,21 @@ fn scan(
 {
     let column = columns[m];
     let mut found = count;
-    let mut behind = count;
-    while behind < n - i {
-        let k = queue[behind];
+    let mut place = count;
+    while place < n - i {
+        let k = queue[place];
         if tight(table, n, additions, heads, k, column) {
-            queue[behind] = queue[found];
+            queue[place] = queue[found];
             found = join(k, m, found, &mut *next, &mut *step, &mut *queue);
         }
-        behind += 1;
+        place += 1;
     }
     found
 }
 
-// The rows from i on from which the column of row i can be reached: the columns of the rows found are scanned one after the other,
-// until row `wanted` is found or none is left. The contract rules out a search that stops while the row wanted is not found and a
-// column of a row found is not scanned.
+// Rows from i on from which the column of row i can be reached: the columns of the rows found are scanned one after the other, until
+// row `wanted` is found or none is left. The contract rules out a search that stops while the row wanted is not found and a column of
+// a row found is not scanned.
 pub fn find_ways(
     table: &[i16],
     n: usize,

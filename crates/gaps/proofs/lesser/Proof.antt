@@ -1,4 +1,4 @@
--- The lesser of two gaps, a marked column's counted as one more. Assumes nothing.
+-- The lesser of two gaps, the new one counted as one more where its column is marked. Assumes nothing.
 use mathlib.Core.Logic.{inl, inr}
 use Prim.Native.Nat.{_≤_}
 use native.Mathlib.Omega.{arith}

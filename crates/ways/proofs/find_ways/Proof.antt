@@ -1,4 +1,4 @@
--- The columns of the rows in the queue are scanned one after the other, until the row wanted is found or none is left. Assumes nothing.
+-- The columns of the rows found are scanned one after the other, until the row wanted is found or none is left. Assumes nothing.
 use mathlib.Core.Path.{refl}
 use Prim.Native.Nat.{_-_}
 use native.Mathlib.Omega.{arith}

@@ -8,11 +8,11 @@ use Rattle.ways.proofs.scan.Statement.{statement}
 use Rattle.ways.proofs.scan.Tie as tie
 
 abbrev Inv-loop : tie.InvT-loop
-Inv-loop table n additions heads columns i m count next₀ step₀ queue₀ column found₀ behind₀ next step queue found behind =
-    ScannedTo table n additions i columns m behind (ways next₀ step₀ queue₀ count) (ways next step queue found)
+Inv-loop table n additions heads columns i m count next₀ step₀ queue₀ column found₀ place₀ next step queue found place =
+    ScannedTo table n additions i columns m place (ways next₀ step₀ queue₀ count) (ways next step queue found)
 
 abbrev μ-loop : tie.MeasureT-loop
-μ-loop table n additions heads columns i m count next₀ step₀ queue₀ column found₀ behind₀ next step queue found behind = n - i - behind
+μ-loop table n additions heads columns i m count next₀ step₀ queue₀ column found₀ place₀ next step queue found place = n - i - place
 
 mul-column : tie.Need-mul-column Inv-loop μ-loop
 mul-column c = omega (arith, c .pre .0 .square .small)
@@ -26,8 +26,8 @@ loop-holds c = scan-start (c .before .pre .4)
 sub-loop : tie.Need-sub-loop Inv-loop μ-loop
 sub-loop c = omega (arith, c .before .before .pre .1 .row)
 
--- the place is one of a row that is not found
-inside : (c : tie.In-loop Inv-loop μ-loop) → c .before .before .before .args .i + c .before .loop .behind < c .before .before .before .args .n
+-- the place is one of the n − i that the queue has
+inside : (c : tie.In-loop Inv-loop μ-loop) → c .before .before .before .args .i + c .before .loop .place < c .before .before .before .args .n
 inside c = omega arith
 
 mul-k : tie.Need-mul-k Inv-loop μ-loop
@@ -39,7 +39,7 @@ element-copy-out-k c = omega (arith, c .before .before .before .pre .0 .square .
 tight-requires : tie.Need-tight-requires Inv-loop μ-loop
 tight-requires c κs =
     let s = c .before .before .before .before in
-    (s .pre .0, scan-row (c .before .before .loop .inv) (inside (c .before)) .1, s .pre .1 .column (s .args .m) (s .pre .2))
+    (s .pre .0, scan-row (c .before .before .loop .inv) (inside (c .before)), s .pre .1 .column (s .args .m) (s .pre .2))
 
 mul-queue : tie.Need-mul-queue Inv-loop μ-loop
 mul-queue c = omega (arith, c .before .before .before .before .loop .inv .behind, c .before .before .before .before .before .before .pre .0 .square .small)
@@ -59,10 +59,10 @@ join-requires c κs =
     let small = c .before .before .before .before .before .before .before .before .before .before .pre .0 .square .small in
     let s = c .before .before .before .before .before .before .before .before .loop .inv in
     let row = scan-row s (inside (c .before .before .before .before .before .before .before)) in
-    (omega (arith, row .1), omega (arith, s .behind))
+    (omega (arith, row), omega (arith, s .behind))
 
-add-behind : tie.Need-add-behind Inv-loop μ-loop
-add-behind c = omega (arith, c .before .before .before .before .before .before .pre .0 .square .small)
+add-place : tie.Need-add-place Inv-loop μ-loop
+add-place c = omega (arith, c .before .before .before .before .before .before .pre .0 .square .small)
 
 loop-less : tie.Need-loop-less Inv-loop μ-loop
 loop-less c = omega arith
@@ -100,7 +100,7 @@ scan-spec =
     mul-queue-2
     element-write-queue
     join-requires
-    add-behind
+    add-place
     loop-less
     loop-again
     returns)

@@ -1,6 +1,7 @@
 pub mod Signed
 pub mod Pigeonhole
 pub mod Totals
+pub mod Counts
 pub mod Duality
 pub mod Lattice
 pub mod Unique
@@ -8,5 +9,6 @@ pub mod Paths
 pub mod Bounds
 pub mod Search
 pub mod Decisions
+pub mod Ties
 pub mod Cases
 pub mod Exchange

@@ -1,10 +1,10 @@
 -- Document 01's "Definitions taken from Jacobi", for a table with n rows and n columns whose entry in row i and column j is
 -- `a i j`. Additions are natural numbers, one for each row; orders, heads and sums are signed. Only rows and columns below n count.
 use mathlib.Core.Path.{_≡_}
-use Prim.Native.Nat.{ℕ, _≤_, _<_}
+use Prim.Native.Nat.{ℕ, suc, _≤_, _<_}
 use lib.IntN.{ℤ, pos, _+ℤ_, _-ℤ_}
 use lib.Signed.{_≤ℤ_, _<ℤ_}
-use Rattle.theory.specs.Totals.{total, totalℕ}
+use Rattle.theory.specs.Totals.{total, totalℕ, Count}
 use Rattle.theory.specs.Table.{absent, Present}
 
 -- l is at most m in every row
@@ -66,6 +66,26 @@ module _ (n : ℕ) (a : ℕ → ℕ → ℤ) where
   -- h is column by column the head
   abbrev pub Heads : (ℕ → ℕ) → (ℕ → ℤ) → Type 0
   Heads l h = (j : ℕ) → j < n → Head l j (h j)
+
+  -- ---- document 02, request 1: "Finding a column's head must also tell the lowest row that holds it and how many rows do."
+  -- "the lowest row that holds it": row i holds a maximum of column j, and no row with a lower number does
+  pub record LowestHolder (l : ℕ → ℕ) (j i : ℕ) : Type 0 where
+    pub inside : i < n
+    pub maximum : Maximum l i j
+    pub lowest : (k : ℕ) → k < i → Maximum l k j → ⊥
+
+  -- "how many rows do": c rows hold a maximum of column j
+  abbrev pub Holders : (ℕ → ℕ) → ℕ → ℕ → Type 0
+  Holders l j c = Count (λ i. Maximum l i j) n c
+
+  -- the head of column j, the row, numbered from 1, and the count. "In a column with no present order head, count and row are 0."
+  pub data ColumnHead (l : ℕ → ℕ) (j : ℕ) (h : ℤ) (row count : ℕ) : Type 0 where
+    held : (i : ℕ) → LowestHolder l j i → h ≡ raised l i j → row ≡ suc i → Holders l j count → ColumnHead l j h row count
+    empty : ((i : ℕ) → i < n → Present (a i j) → ⊥) → h ≡ pos 0 → row ≡ 0 → count ≡ 0 → ColumnHead l j h row count
+
+  -- "a section `ties N` .., one count a column"
+  abbrev pub Ties : (ℕ → ℕ) → (ℕ → ℕ) → Type 0
+  Ties l c = (j : ℕ) → j < n → Holders l j (c j)
 
   -- σ comes before τ "when its columns are written for row 1, row 2 and so on, and compared from the left"
   pub record Before (σ τ : ℕ → ℕ) : Type 0 where

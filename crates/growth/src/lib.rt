@@ -235,7 +235,7 @@ fn first_heads(table: &[i16], n: usize, start: &[u32; ROWS], heads: &mut [i32; R
     let mut j = 0;
     while j < n {
         let top = orders::head(table, n, start, j);
-        if !top.present {
+        if top.row == 0 {
             return false;
         }
         let head = top.head;

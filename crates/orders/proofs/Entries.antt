@@ -74,6 +74,20 @@ read-le {w} {x} {y} f g t = let u : leZ x y ≡ true = simp (toZ-ofZ) at t in om
 pub read-gt : {w : Width} {x y : ℤ} → SFits w x → SFits w y → leZ (toZ w (ofZ w x)) (toZ w (ofZ w y)) ≡ false → y ≤ℤ x
 read-gt {w} {x} {y} f g t = let u : leZ x y ≡ false = simp (toZ-ofZ) at t in omega (arith, signed)
 
+pub read-lt : {w : Width} {x y : ℤ} → SFits w x → SFits w y → ltZ (toZ w (ofZ w x)) (toZ w (ofZ w y)) ≡ true → x <ℤ y
+read-lt {w} {x} {y} f g t = let u : ltZ x y ≡ true = simp (toZ-ofZ) at t in omega (arith, signed)
+
+-- neither below nor the same: above
+pub read-above : {w : Width} {x y : ℤ} → SFits w x → SFits w y → ltZ (toZ w (ofZ w x)) (toZ w (ofZ w y)) ≡ false → (ofZ w x ≡ ofZ w y → ⊥) → y <ℤ x
+read-above {w} {x} {y} f g t ne = go (ltZ y x) refl
+  where
+    u : ltZ x y ≡ false
+    u = simp (toZ-ofZ) at t
+
+    go : (b : Bool) → ltZ y x ≡ b → y <ℤ x
+    go true e = omega (arith, signed)
+    go false e = let same : x ≡ y = omega (arith, signed, u) in absurd (ne (ap (ofZ w) same))
+
 -- signed numbers with the same bits are the same
 pub bits-same : {w : Width} {x y : ℤ} → SFits w x → SFits w y → ofZ w x ≡ ofZ w y → x ≡ y
 bits-same {w} f g e = sym (toZ-ofZ f) ∙ ap (toZ w) e ∙ toZ-ofZ g

@@ -1,17 +1,16 @@
 -- Reading one place of a table that was tested, and a column's head.
 use mathlib.Core.Path.{_≡_}
-use mathlib.Core.Bool.{true, false}
 use mathlib.Core.List.{List}
-use mathlib.Core.Logic.{_⊎_}
-use Prim.Native.Nat.{ℕ, _*_, _≤_, _<_}
+use Prim.Native.Nat.{ℕ, _+_, _*_, _≤_, _<_}
 use lib.IntN.{ℤ, pos, _+ℤ_}
 use lib.ListN.{length}
-use lib.Signed.{_≤ℤ_}
+use lib.Signed.{_<ℤ_}
 use Rattle.theory.specs.Limits.{row-limit}
-use Rattle.theory.specs.Lists.{nums}
+use Rattle.theory.specs.Lists.{nums, ints}
 use Rattle.theory.specs.Table.{Present, entry}
-use Rattle.theory.specs.Canon.{Head}
+use Rattle.theory.specs.Canon.{ColumnHead}
 use Rattle.orders.specs.declared.Top.{Top}
+use Rattle.orders.specs.declared.Tops.{Tops}
 
 -- the ceiling, which no addition passes while the code works: under it a raised order and a difference of two fit 32 bits
 abbrev pub ceiling : ℕ
@@ -26,18 +25,20 @@ pub record Square (t : List ℤ) (n : ℕ) : Type 0 where
 abbrev pub UnderCeiling : ℕ → List ℕ → Type 0
 UnderCeiling n l = (i : ℕ) → i < n → nums l i ≤ ceiling
 
--- r is the head of column j of the table t of n rows, with the additions l: marked and the head where a row is present, else unmarked
--- and 0
-pub record TopOf (t : List ℤ) (n : ℕ) (l : List ℕ) (j : ℕ) (r : Top) : Type 0 where
-  pub head : r .present ≡ true → Head n (entry t n) (nums l) j (r .head)
-  pub empty : r .present ≡ false → (i : ℕ) → i < n → Present (entry t n i j) → ⊥
-  pub zero : r .present ≡ false → r .head ≡ pos 0
+-- r has head, lowest row and count of column j of the table t of n rows, with the additions l
+abbrev pub TopOf : List ℤ → ℕ → List ℕ → ℕ → Top → Type 0
+TopOf t n l j r = ColumnHead n (entry t n) (nums l) j (r .head) (r .row) (r .count)
 
--- r is the larger of a height and the order v raised by l, where v is present
-pub record Higher (v : ℤ) (l : ℕ) (height r : ℤ) : Type 0 where
-  pub this : Present v → (v +ℤ pos l) ≤ℤ r
-  pub other : height ≤ℤ r
-  pub one : (r ≡ height) ⊎ (Present v × (r ≡ v +ℤ pos l))
+-- r has them of each of the n columns
+abbrev pub TopsOf : List ℤ → ℕ → List ℕ → Tops → Type 0
+TopsOf t n l r = (j : ℕ) → j < n → ColumnHead n (entry t n) (nums l) j (ints (r .heads) j) (nums (r .rows) j) (nums (r .counts) j)
+
+-- What is known of a column as `top` becomes r when row i is taken in, whose order is v and whose addition is l: nothing changes where the
+-- row is absent or below the head; it is one more that holds the head; or, above the head, it is the first that holds the new one.
+pub data TakenIn (i : ℕ) (v : ℤ) (l : ℕ) (top r : Top) : Type 0 where
+  passed : (Present v → (v +ℤ pos l) <ℤ top .head) → r ≡ top → TakenIn i v l top r
+  tied : Present v → v +ℤ pos l ≡ top .head → r .head ≡ top .head → r .row ≡ top .row → r .count ≡ top .count + 1 → TakenIn i v l top r
+  above : Present v → top .head <ℤ (v +ℤ pos l) → r .head ≡ v +ℤ pos l → r .row ≡ i + 1 → r .count ≡ 1 → TakenIn i v l top r
 
 -- row-of-column and column-of-row marks of a complete transversal: each undoes the other
 pub record Marks (n : ℕ) (row-of column-of : ℕ → ℕ) : Type 0 where

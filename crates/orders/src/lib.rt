@@ -1,9 +1,9 @@
 ghost use mathlib.Core.Path.{_≡_};
 ghost use Rattle.theory.specs.Table.{Present, Order, Entries};
-ghost use Rattle.theory.specs.Limits.{order-limit};
+ghost use Rattle.theory.specs.Limits.{row-limit, order-limit};
 ghost use Rattle.orders.specs.Refusals.{numberOf};
 ghost use Rattle.orders.specs.Tested.{Tells};
-ghost use Rattle.orders.specs.Places.{ceiling, Square, UnderCeiling, TopOf, Higher};
+ghost use Rattle.orders.specs.Places.{ceiling, Square, UnderCeiling, TopOf, TopsOf, TakenIn};
 ghost use Rattle.theory.specs.Table.{entry};
 ghost use Prim.Native.Nat.{_*_, _≤_, _<_};
 ghost use lib.IntN.{pos, _+ℤ_};
@@ -120,49 +120,95 @@ pub fn tight(order: i16, addition: u32, head: i32) -> bool
     raise(order, addition) == head
 }
 
-// A column's head: whether an order is present, and the largest raised order.
+// A column's head, the lowest row that holds it, numbered from 1, and how many rows do; all three are 0 where the column has no order.
 pub struct Top {
-    pub present: bool,
     pub head: i32,
+    pub row: u32,
+    pub count: u32,
 }
 
-// The larger of a height and one more order of the column, raised; an absent place is passed over. Rules out the smaller of the two,
-// an absent place taken for an order, and a height of no row.
-fn higher(height: i32, order: i16, addition: u32) -> i32
-    requires { ⌜ addition ≤ ceiling ⌝ }
-    ensures { λ r. ⌜ Higher order addition height r ⌝ }
+// What is known of a column, with one more of its rows taken in: row i, with this order and addition. Rules out an absent place taken
+// for an order, a later row for the lowest, and a count that goes on where a greater head comes.
+fn taken_in(top: Top, i: usize, order: i16, addition: u32) -> Top
+    requires { ⌜ (addition ≤ ceiling) × (i < row-limit) × (top .count ≤ i) ⌝ }
+    ensures { λ r. ⌜ TakenIn i order addition top r ⌝ }
 {
     if order == ABSENT {
-        return height;
+        return top;
     }
     let raised = raise(order, addition);
-    if raised <= height {
-        return height;
+    if raised < top.head {
+        return top;
     }
-    raised
+    if raised == top.head {
+        return Top {
+            head: raised,
+            row: top.row,
+            count: top.count + 1,
+        };
+    }
+    Top {
+        head: raised,
+        row: i as u32 + 1,
+        count: 1,
+    }
 }
 
-// The head of column j with the additions given. The height begins below every raised order, and is still there where the column has
-// none. Rules out a head that no order reaches or that one exceeds, and an absent column taken for one with the head 0.
+// Head, lowest row and count of column j with the additions given. The head begins below every raised order, and is still there where
+// the column has none. Rules out a head that no order reaches or that one exceeds, another row than the lowest that holds it, a tie
+// left out, and anything but 0 in a column with no order.
 pub fn head(table: &[i16], n: usize, additions: &[u32; ROWS], j: usize) -> Top
     requires { ⌜ Square (now table) n × (j < n) × UnderCeiling n (now additions) ⌝ }
     ensures { λ r. ⌜ TopOf (now (table .entry)) n (now (additions .entry)) j r ⌝ }
 {
-    let mut height = ABSENT as i32;
+    let mut top = Top {
+        head: ABSENT as i32,
+        row: 0,
+        count: 0,
+    };
     let mut i = 0;
     while i < n {
         let order = place(table, n, i, j);
-        height = higher(height, order, additions[i]);
+        top = taken_in(top, i, order, additions[i]);
         i += 1;
     }
-    if height <= ABSENT as i32 {
+    if top.row == 0 {
         return Top {
-            present: false,
             head: 0,
+            row: 0,
+            count: 0,
         };
     }
-    Top {
-        present: true,
-        head: height,
+    top
+}
+
+// Head, lowest row and count of every column, as `Top` has them of one.
+pub struct Tops {
+    pub heads: [i32; ROWS],
+    pub rows: [u32; ROWS],
+    pub counts: [u32; ROWS],
+}
+
+// Head, lowest row and count of each of the n columns. Rules out what `head` rules out, in every column.
+pub fn heads(table: &[i16], n: usize, additions: &[u32; ROWS]) -> Tops
+    requires { ⌜ Square (now table) n × UnderCeiling n (now additions) ⌝ }
+    ensures { λ r. ⌜ TopsOf (now (table .entry)) n (now (additions .entry)) r ⌝ }
+{
+    let mut heads = [0i32; ROWS];
+    let mut rows = [0u32; ROWS];
+    let mut counts = [0u32; ROWS];
+    let mut j = 0;
+    while j < n {
+        let top = head(table, n, additions, j);
+        let height = top.head;
+        heads[j] = height;
+        rows[j] = top.row;
+        counts[j] = top.count;
+        j += 1;
+    }
+    Tops {
+        heads,
+        rows,
+        counts,
     }
 }

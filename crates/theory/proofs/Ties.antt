@@ -1,14 +1,14 @@
 -- Head, lowest row and count of a column: one more row taken in, and what follows of the whole column. Assumes nothing.
 use mathlib.Core.Path.{_≡_, refl, sym, _∙_, ap}
-use mathlib.Core.Logic.{_⊎_, inl, inr}
-use Prim.Native.Nat.{ℕ, zero, suc, _≤_, _<_}
+use mathlib.Core.Logic.{_≢_}
+use Prim.Native.Nat.{ℕ, zero, suc, _+_, _≤_, _<_}
 use native.Mathlib.Decide.{ℕ-discrete, decLt}
 use native.Mathlib.Omega.{arith}
 use lib.IntN.{ℤ, pos, _+ℤ_}
 use lib.Signed.{_≤ℤ_, _<ℤ_, ≤ℤ-refl}
 use Rattle.theory.specs.Table.{Present}
 use Rattle.theory.specs.Totals.{Count, none, one-more, passed-over}
-use Rattle.theory.specs.Canon.{raised, Maximum, Canon, Head, LowestHolder, Holders, ColumnHead, held, empty, Ties}
+use Rattle.theory.specs.Canon.{NoTransversal, raised, Maximum, Canon, Head, LowestHolder, Holders, ColumnHead, held, empty, Ties}
 use Rattle.theory.proofs.Signed.{signed}
 use Rattle.theory.proofs.Counts.{count-once, count-same, count-none, count-some}
 use Rattle.theory.proofs.Pigeonhole.{onto}
@@ -110,15 +110,28 @@ module _ (n : ℕ) (a : ℕ → ℕ → ℤ) where
     pub column-head-once : {h h′ : ℤ} {row row′ c c′ : ℕ} → ColumnHead n a l j h row c → ColumnHead n a l j h′ row′ c′ → OneHead h h′ row row′ c c′
     column-head-once (held i o e r s) (held k q f u t) =
         let same = lowest-once o q in
-        record { one-head = e ∙ ap (λ x. raised n a l x j) same ∙ sym f; one-row = r ∙ ap suc same ∙ sym u; one-count = count-once s t }
+        record { one-head = e ∙ ap (λ x. raised n a l x j) same ∙ sym f; one-row = r ∙ ap (λ x. x + 1) same ∙ sym u; one-count = count-once s t }
     column-head-once (held i o e r s) (empty f x y z) = absurd (f i (o .inside) (o .maximum .present))
     column-head-once (empty f x y z) (held i o e r s) = absurd (f i (o .inside) (o .maximum .present))
     column-head-once (empty f x y z) (empty g x′ y′ z′) = record { one-head = x ∙ sym x′; one-row = y ∙ sym y′; one-count = z ∙ sym z′ }
 
-    -- where a row is present, the head is one
+    -- the row is 0 exactly where no order is present; elsewhere the head is one
+    pub no-row : {h : ℤ} {row c : ℕ} → ColumnHead n a l j h row c → row ≡ 0 → EmptyColumn j
+    no-row (held k o e r s) z = absurd (omega arith)
+    no-row (empty f e r c) z = f
+
+    -- a complete transversal would take an order there
+    pub no-row-none : {h : ℤ} {row c : ℕ} → ColumnHead n a l j h row c → j < n → row ≡ 0 → NoTransversal n a
+    no-row-none t hj z σ s =
+        let (i, hi, e) = onto n σ (s .apart) (s .inside) j hj in
+        no-row t z i hi (rw e at (s .present i hi))
+
+    pub row-head : {h : ℤ} {row c : ℕ} → ColumnHead n a l j h row c → row ≢ 0 → Head n a l j h
+    row-head (held k o e r s) some = record { row = k; inside = o .inside; maximum = o .maximum; is = e }
+    row-head (empty f e r z) some = absurd (some r)
+
     pub column-head : {h : ℤ} {row c i : ℕ} → ColumnHead n a l j h row c → i < n → Present (a i j) → Head n a l j h
-    column-head (held k o e r s) hi p = record { row = k; inside = o .inside; maximum = o .maximum; is = e }
-    column-head {i = i} (empty f e r z) hi p = absurd (f i hi p)
+    column-head {i = i} t hi p = row-head t (λ z. no-row t z i hi p)
 
     -- Under a canon every count is at least 1: each column has a row of the transversal of maxima.
     pub canon-holders : {c : ℕ} → Canon n a l → j < n → Holders n a l j c → 1 ≤ c
@@ -143,7 +156,7 @@ column-head-exists (suc k) a l j =
     new here above =
         record {
           head = raised k a l k j;
-          row = suc k;
+          row = k + 1;
           count = 1;
           is = held k (new-holder a l j k here above) refl refl (new-count a l j k here above);
         }
@@ -153,7 +166,7 @@ column-head-exists (suc k) a l j =
         let under : Present (a k j) → raised k a l k j ≤ℤ raised k a l i j = λ p. omega (arith, signed, lt p) in
         record {
           head = raised k a l i j;
-          row = suc i;
+          row = i + 1;
           count = c;
           is = held i (old-holder a l j k o under) refl refl (count-kept a l j k o under s lt);
         }
@@ -163,7 +176,7 @@ column-head-exists (suc k) a l j =
         let under : Present (a k j) → raised k a l k j ≤ℤ raised k a l i j = λ p. omega (arith, signed, e) in
         record {
           head = raised k a l i j;
-          row = suc i;
+          row = i + 1;
           count = suc c;
           is = held i (old-holder a l j k o under) refl refl (count-more a l j k o under s here e);
         }

@@ -1,7 +1,7 @@
 -- Document 01's "Definitions taken from Jacobi", for a table with n rows and n columns whose entry in row i and column j is
 -- `a i j`. Additions are natural numbers, one for each row; orders, heads and sums are signed. Only rows and columns below n count.
 use mathlib.Core.Path.{_≡_}
-use Prim.Native.Nat.{ℕ, suc, _≤_, _<_}
+use Prim.Native.Nat.{ℕ, _+_, _≤_, _<_}
 use lib.IntN.{ℤ, pos, _+ℤ_, _-ℤ_}
 use lib.Signed.{_≤ℤ_, _<ℤ_}
 use Rattle.theory.specs.Totals.{total, totalℕ, Count}
@@ -80,7 +80,7 @@ module _ (n : ℕ) (a : ℕ → ℕ → ℤ) where
 
   -- the head of column j, the row, numbered from 1, and the count. "In a column with no present order head, count and row are 0."
   pub data ColumnHead (l : ℕ → ℕ) (j : ℕ) (h : ℤ) (row count : ℕ) : Type 0 where
-    held : (i : ℕ) → LowestHolder l j i → h ≡ raised l i j → row ≡ suc i → Holders l j count → ColumnHead l j h row count
+    held : (i : ℕ) → LowestHolder l j i → h ≡ raised l i j → row ≡ i + 1 → Holders l j count → ColumnHead l j h row count
     empty : ((i : ℕ) → i < n → Present (a i j) → ⊥) → h ≡ pos 0 → row ≡ 0 → count ≡ 0 → ColumnHead l j h row count
 
   -- "a section `ties N` .., one count a column"

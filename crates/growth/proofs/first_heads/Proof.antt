@@ -3,12 +3,12 @@ use mathlib.Core.Path.{_≡_, refl}
 use Prim.Native.Nat.{_-_, _≤_}
 use native.Mathlib.Omega.{arith}
 use borrow.Author.Needs.{needs}
-use borrow.Author.Tests.{not-true, not-false}
 use mir.Syntax.{w32}
 use mir.Val.{SFits}
 use mir.Facts.{toZ-ofZ}
+use Rattle.theory.proofs.Ties.{no-row-none}
 use Rattle.orders.proofs.Entries.{clash}
-use Rattle.growth.proofs.Heads.{HeadsTo, heads-step, no-head}
+use Rattle.growth.proofs.Heads.{HeadsTo, heads-step}
 use Rattle.growth.proofs.first_heads.Statement.{statement}
 use Rattle.growth.proofs.first_heads.Tie as tie
 
@@ -31,7 +31,7 @@ returns c =
     let top = c .before .before .head in
     record {
       heads = λ e. clash e refl;
-      none = λ e. no-head (top .ensures) (omega arith) (not-true _ (c .if1 .taken));
+      none = λ e. no-row-none _ _ (top .ensures) (omega arith) (c .if1 .taken);
       long = c .before .before .before .before .loop .inv .1 .long;
     }
 
@@ -55,7 +55,7 @@ loop-again c =
       omega arith,
       rw (toZ-ofZ f)
           (heads-step (c .before .before .before .before .before .loop .inv .1) (omega (arith, s .pre .0 .small)) (top .ensures)
-          (not-false _ (c .before .if1 .left))),
+          (c .before .if1 .left)),
     )
 
 returns-2 : tie.Need-returns-2 Inv-loop μ-loop

@@ -1,42 +1,45 @@
--- The head of a column, one row after the other. Assumes nothing.
+-- Head, lowest row and count of a column, one row after the other. Assumes nothing.
 use mathlib.Core.Path.{_≡_}
 use Prim.Native.Nat.{_-_, _≤_}
+use native.Mathlib.Numerals.{add-one}
 use native.Mathlib.Omega.{arith}
 use borrow.Author.Needs.{needs, sfits-of}
-use mir.Syntax.{w16, w32}
-use mir.Val.{toZ}
+use mir.Syntax.{w16}
 use mir.Facts.{toZ-ofZ}
-use Rattle.orders.proofs.Places.{HeightOf, height-none, height-more, top-empty, top-found}
+use Rattle.orders.proofs.Places.{Sought, sought-none, sought-few, sought-more, top-empty, top-found}
 use Rattle.orders.proofs.head.Statement.{statement}
-use Rattle.theory.proofs.Signed.{signed}
 use Rattle.orders.proofs.head.Tie as tie
 
 abbrev Inv-loop : tie.InvT-loop
-Inv-loop table n additions j height₀ i₀ height i = (i ≤ n) × HeightOf table n i additions j (toZ w32 height)
+Inv-loop table n additions j top₀ i₀ top i = (i ≤ n) × Sought table n i additions j top
 
 abbrev μ-loop : tie.MeasureT-loop
-μ-loop table n additions j height₀ i₀ height i = n - i
+μ-loop table n additions j top₀ i₀ top i = n - i
 
-all-passed : (c : tie.After-loop Inv-loop μ-loop) → c .before .loop .i ≡ c .before .before .args .n
-all-passed c = omega arith
+-- past the loop all rows are taken in
+all-taken : (c : tie.After-loop Inv-loop μ-loop) → let s = c .before .before in
+    Sought (s .args .table .now) (s .args .n) (s .args .n) (s .args .additions .now) (s .args .j) (c .before .loop .top)
+all-taken c = let e : c .before .loop .i ≡ c .before .before .args .n = omega arith in rw e at (c .before .loop .inv .1)
 
-cast-height : tie.Need-cast-height Inv-loop μ-loop
-cast-height c = search needs
+cast-t8 : tie.Need-cast-t8 Inv-loop μ-loop
+cast-t8 c = search needs
 
 loop-holds : tie.Need-loop-holds Inv-loop μ-loop
-loop-holds c = (omega arith, height-none _ _ _ _)
+loop-holds c = (omega arith, sought-none _ _ _ _)
 
 place-requires : tie.Need-place-requires Inv-loop μ-loop
 place-requires c κs = (c .before .before .pre .0, omega arith, c .before .before .pre .1)
 
-mul-higher : tie.Need-mul-higher Inv-loop μ-loop
-mul-higher c = search needs
+mul-taken-in : tie.Need-mul-taken-in Inv-loop μ-loop
+mul-taken-in c = search needs
 
-element-copy-out-higher : tie.Need-element-copy-out-higher Inv-loop μ-loop
-element-copy-out-higher c = omega (arith, c .before .before .before .pre .0 .small)
+element-copy-out-taken-in : tie.Need-element-copy-out-taken-in Inv-loop μ-loop
+element-copy-out-taken-in c = omega (arith, c .before .before .before .pre .0 .small)
 
-higher-requires : tie.Need-higher-requires Inv-loop μ-loop
-higher-requires c κs = c .before .before .before .before .pre .2 _ (omega arith)
+taken-in-requires : tie.Need-taken-in-requires Inv-loop μ-loop
+taken-in-requires c κs =
+    let s = c .before .before .before .before in
+    (s .pre .2 _ (omega arith), omega (arith, s .pre .0 .small), sought-few (c .before .before .before .loop .inv .1))
 
 add-i : tie.Need-add-i Inv-loop μ-loop
 add-i c = search needs
@@ -48,19 +51,16 @@ loop-again : tie.Need-loop-again Inv-loop μ-loop
 loop-again c =
     let p = c .before .before .place in (
       omega arith,
-      rw (toZ-ofZ {w = w32} (sfits-of (c .higher .ok)))
-          (height-more (c .before .before .before .before .loop .inv .1) (rw (p .ensures) at (sfits-of {w = w16} {z = p .result} (p .ok)))
-          (rw (p .ensures) at (simp (toZ-ofZ {w = w16} {z = p .result} (sfits-of (p .ok))) at (c .higher .ensures)))),
+      rw (add-one (c .before .before .before .before .loop .i))
+          (sought-more _ _ _ _ _ (rw (p .ensures) at (sfits-of {w = w16} {z = p .result} (p .ok))) (c .before .before .before .before .loop .inv .1)
+          (rw (p .ensures) at (simp (toZ-ofZ {w = w16} {z = p .result} (sfits-of (p .ok))) at (c .taken-in .ensures)))),
     )
 
-cast-if1 : tie.Need-cast-if1 Inv-loop μ-loop
-cast-if1 c = search needs
-
 returns : tie.Need-returns Inv-loop μ-loop
-returns c = top-empty (rw (all-passed (c .before)) at (c .before .before .loop .inv .1)) (omega (arith, signed, c .if1 .taken))
+returns c = top-empty (all-taken (c .before .before)) (c .if1 .taken)
 
 returns-2 : tie.Need-returns-2 Inv-loop μ-loop
-returns-2 c = top-found (rw (all-passed (c .before)) at (c .before .before .loop .inv .1)) (omega (arith, signed, c .if1 .left))
+returns-2 c = top-found (all-taken (c .before .before)) (c .if1 .left)
 
 pub head-spec : {M : Type 1} → statement M
 head-spec =
@@ -68,15 +68,14 @@ head-spec =
     (tie.spec
     Inv-loop
     μ-loop
-    cast-height
+    cast-t8
     loop-holds
     place-requires
-    mul-higher
-    element-copy-out-higher
-    higher-requires
+    mul-taken-in
+    element-copy-out-taken-in
+    taken-in-requires
     add-i
     loop-less
     loop-again
-    cast-if1
     returns
     returns-2)

@@ -5,7 +5,8 @@ use mir.Syntax.{w16, w32}
 use mir.Val.{SFits}
 use mir.Facts.{toZ-ofZ}
 use Rattle.theory.specs.Limits.{order-limit}
-use Rattle.orders.proofs.Places.{within, top-head}
+use Rattle.theory.proofs.Ties.{column-head}
+use Rattle.orders.proofs.Places.{within}
 use Rattle.raising.proofs.Heights.{head-above, head-under}
 use Rattle.raising.proofs.wanted.Statement.{statement}
 use Rattle.raising.proofs.wanted.Tie as tie
@@ -21,7 +22,7 @@ excess-requires c κs =
     let p = c .before .before .place in
     let s = c .before .before .before in
     let f : SFits w32 (c .before .head .result .head) = search needs in
-    let h = top-head (s .pre .row) (s .pre .present) (c .before .head .ensures) in
+    let h = column-head _ _ (c .before .head .ensures) (s .pre .row) (s .pre .present) in
     let w = within order-limit (s .args .n) (s .args .table .now) (s .pre .square .square) (s .pre .entries) in
     rw (toZ-ofZ f, toZ-ofZ {w = w16} {z = p .result} (sfits-of (p .ok)), p .ensures) (
       head-above _ _ _ _ h (s .pre .row) (s .pre .present),
@@ -34,7 +35,7 @@ returns c =
     let s = c .before .before .before .before in
     let f : SFits w32 (c .before .before .head .result .head) = search needs in
     let e = rw (p .ensures) at (simp (toZ-ofZ {w = w16} {z = p .result} (sfits-of (p .ok)), toZ-ofZ f) at (c .excess .ensures)) in
-    rw e (top-head (s .pre .row) (s .pre .present) (c .before .before .head .ensures))
+    rw e (column-head _ _ (c .before .before .head .ensures) (s .pre .row) (s .pre .present))
 
 pub wanted-spec : {M : Type 1} → statement M
 wanted-spec = tie.close (tie.spec place-requires head-requires excess-requires returns)

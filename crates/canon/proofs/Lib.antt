@@ -1,4 +1,5 @@
 pub mod Refusing
+pub mod Filling
 pub mod Answering
 pub mod Solving
 pub mod Unique

@@ -82,7 +82,7 @@ basic-given {n} {k} b = narrowed three (λ w. elim w [ inl ne ↦ inl ne | inr n
     three (inr (inr (inr (inr none)))) = absurd none
 
 -- a refusal that is the first of the first three is the first of all
-first-of-all : (n : ℕ) (t : List ℤ) (ks : List ℕ) (more : List Test) (k : ℕ) → First (basic n t ks []) k → First (basic n t ks more) k
+pub first-of-all : (n : ℕ) (t : List ℤ) (ks : List ℕ) (more : List Test) (k : ℕ) → First (basic n t ks []) k → First (basic n t ks more) k
 first-of-all n t ks more k (inl p) = inl p
 first-of-all n t ks more k (inr (s, inl p)) = inr (s, inl p)
 first-of-all n t ks more k (inr (s, inr (w, inl p))) = inr (s, inr (w, inl p))

@@ -2,17 +2,18 @@
 use mathlib.Core.Path.{_≡_}
 use mathlib.Core.Bool.{true, false}
 use mathlib.Core.List.{List, [], _∷_}
-use Prim.Native.Nat.{ℕ}
+use Prim.Native.Nat.{ℕ, _<_}
 use lib.IntN.{ℤ}
 use lib.ListN.{length}
 use Rattle.theory.specs.Lists.{nums, ints, columns, StarList}
 use Rattle.theory.specs.Table.{entry}
-use Rattle.theory.specs.Canon.{Simplest, Solution}
+use Rattle.theory.specs.Canon.{Simplest, ColumnHead, Solution}
 use Rattle.orders.specs.Refusals.{Test, First, Clear, gives, refuses}
-use Rattle.handed.specs.Conditions.{table-tests, canon-tests, star-tests}
-use Rattle.canon.specs.Answers.{said, judged}
+use Rattle.handed.specs.Conditions.{table-tests, canon-tests, heads-tests, star-tests}
+use Rattle.canon.specs.Answers.{said, judged, told}
 use Rattle.canon.specs.declared.Answer.{Answer}
 use Rattle.canon.specs.declared.Verdict.{Verdict}
+use Rattle.canon.specs.declared.Filled.{Filled}
 
 -- A route's call. Either some refusal that concerns the call applies: then the first, which is the lowest, is returned and "each lent buffer then holds
 -- what it held at the call". Or none does: then the sum is returned, and the lent slices hold the simplest canon, the stars and
@@ -46,3 +47,17 @@ pub data Judges (n : ℕ) (t : List ℤ) (given : List ℕ) (r : Verdict) : Type
   says-yes : Clear (canon-tests n t given (length given ∷ [])) → judged r ≡ gives true → Simplest n (entry t n) (nums given) → Judges n t given r
   says-no : Clear (canon-tests n t given (length given ∷ [])) → judged r ≡ gives false → (Simplest n (entry t n) (nums given) → ⊥)
       → Judges n t given r
+
+-- Document 02, request 1: "Finding a column's head must also tell the lowest row that holds it and how many rows do." Of every column, with
+-- the additions given: either a refusal that concerns the call applies, the first is returned, and the lent slices hold what they held;
+-- or none does, and they hold head, row (numbered from 1) and count of each column.
+abbrev pub column-tests : ℕ → List ℤ → List ℕ → List ℤ → List ℕ → List ℕ → List Test
+column-tests n t given heads rows counts = heads-tests n t given (length given ∷ length heads ∷ length rows ∷ length counts ∷ [])
+
+pub data ColumnHeads (n : ℕ) (t : List ℤ) (given : List ℕ) (heads : List ℤ) (rows counts : List ℕ) (r : Filled) (heads′ : List ℤ) (rows′ counts′ : List ℕ)
+    : Type 0 where
+  leaves : (k : ℕ) → First (column-tests n t given heads rows counts) k → told r ≡ refuses k [] → heads′ ≡ heads → rows′ ≡ rows → counts′ ≡ counts
+      → ColumnHeads n t given heads rows counts r heads′ rows′ counts′
+  fills : Clear (column-tests n t given heads rows counts) → told r ≡ gives tt → length heads′ ≡ n → length rows′ ≡ n → length counts′ ≡ n
+      → ((j : ℕ) → j < n → ColumnHead n (entry t n) (nums given) j (ints heads′ j) (nums rows′ j) (nums counts′ j))
+      → ColumnHeads n t given heads rows counts r heads′ rows′ counts′

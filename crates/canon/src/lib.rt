@@ -1,15 +1,18 @@
 ghost use Rattle.orders.specs.Held.{Startable};
 ghost use Rattle.canon.specs.Solving.{SolvedFrom};
-ghost use Rattle.canon.specs.Promises.{Solves, FromCanon, FromStars, Judges};
+ghost use Rattle.canon.specs.Promises.{Solves, FromCanon, FromStars, Judges, ColumnHeads};
 use growth::grow;
 use handed::FirstTests;
 use handed::additions_stand;
+use handed::held;
 use handed::listed_marks;
 use handed::tested;
 use orders::ROWS;
 use orders::Refusal;
 use outcome::WholeAnswer;
 use outcome::completed;
+use outcome::copy_heads;
+use outcome::copy_numbers;
 use outcome::delivered;
 use outcome::hand_out;
 use routes::from_additions;
@@ -181,4 +184,42 @@ pub fn is_simplest(n: usize, table: &[i16], given: &[u32]) -> Verdict
         return Verdict::Yes;
     }
     Verdict::No
+}
+
+// What the finding of all heads answers: that the lent slices are filled, or why they are not.
+pub enum Filled {
+    Done,
+    Refused(Refusal),
+}
+
+// Head, lowest row and count of every column, with any additions (zeros: the table as it stands), into the lent slices. Rules out a head
+// that is not the largest raised order of its column, another row than the lowest that holds it, a row numbered from 0, a tie left
+// out, a refusal but the lowest that applies, and a byte written where a refusal is given.
+pub fn column_heads(
+    n: usize,
+    table: &[i16],
+    given: &[u32],
+    heads: &mut [i32],
+    rows: &mut [u32],
+    counts: &mut [u32],
+) -> Filled
+    ensures { λ r. ⌜ ColumnHeads n (now (table .entry)) (now (given .entry)) (now (heads .entry)) (now (rows .entry)) (now (counts .entry)) r
+        (now (heads .exit)) (now (rows .exit)) (now (counts .exit)) ⌝ }
+{
+    let first = tested(n, table, given.len(), heads.len(), rows.len(), counts.len());
+    if let FirstTests::Refused(refusal) = first {
+        return Filled::Refused(refusal);
+    }
+    if !additions_stand(given) {
+        return Filled::Refused(Refusal::Addition);
+    }
+    let additions = held(given);
+    let tops = orders::heads(table, n, &additions);
+    let h = tops.heads;
+    let r = tops.rows;
+    let c = tops.counts;
+    copy_heads(h, heads);
+    copy_numbers(r, rows);
+    copy_numbers(c, counts);
+    Filled::Done
 }

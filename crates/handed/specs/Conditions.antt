@@ -73,6 +73,13 @@ canon-more n t given = 4 given-when TooLarge given ∷ 6 given-when NoTransversa
 abbrev pub canon-tests : ℕ → List ℤ → List ℕ → List ℕ → List Test
 canon-tests n t given ks = basic n t ks (canon-more n t given)
 
+-- the heads of all columns with additions handed in, which need not be a canon
+abbrev pub heads-more : List ℕ → List Test
+heads-more given = 4 given-when TooLarge given ∷ []
+
+abbrev pub heads-tests : ℕ → List ℤ → List ℕ → List ℕ → List Test
+heads-tests n t given ks = basic n t ks (heads-more given)
+
 -- route 3: "never gives 4 or 7"
 abbrev pub star-more : ℕ → List ℤ → List ℕ → List Test
 star-more n t given = 5 given-when WrongStars n given ∷ 6 given-when NoTransversal n (entry t n) ∷ 8 given-when NotGreatest n t given ∷ []

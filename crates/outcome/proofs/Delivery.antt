@@ -28,7 +28,7 @@ star-list long one st =
     }
 
 -- as many as the slice has places are copied
-cut : {X : Type 0} {n : ℕ} (lent from : List X) → n ≤ row-limit → length lent ≡ n → Long from → length (take (length lent) from) ≡ n
+pub cut : {X : Type 0} {n : ℕ} (lent from : List X) → n ≤ row-limit → length lent ≡ n → Long from → length (take (length lent) from) ≡ n
 cut {X} {n} lent from small p q = length-take (length lent) from ∙ least
   where
     least : min (length lent) (length from) ≡ n

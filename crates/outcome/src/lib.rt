@@ -70,7 +70,7 @@ fn numbered(n: usize, columns: &[usize; ROWS]) -> [u32; ROWS]
 }
 
 // Fixed numbers copied out into a lent slice. Rules out a number left as it was.
-fn copy_numbers(from: [u32; ROWS], to: &mut [u32])
+pub fn copy_numbers(from: [u32; ROWS], to: &mut [u32])
     requires { ⌜ length (now to) ≤ row-limit ⌝ }
     ensures { λ _. ⌜ now (to .exit) ≡ take (length (now (to .entry))) from ⌝ }
 {
@@ -82,7 +82,7 @@ fn copy_numbers(from: [u32; ROWS], to: &mut [u32])
 }
 
 // The same of heads.
-fn copy_heads(from: [i32; ROWS], to: &mut [i32])
+pub fn copy_heads(from: [i32; ROWS], to: &mut [i32])
     requires { ⌜ length (now to) ≤ row-limit ⌝ }
     ensures { λ _. ⌜ now (to .exit) ≡ take (length (now (to .entry))) from ⌝ }
 {

@@ -211,5 +211,16 @@ module _ (n : ℕ) (a : ℕ → ℕ → ℤ) where
   pub holders-same : {l m : ℕ → ℕ} {j c : ℕ} → Same n a l m → Holders n a l j c → Holders n a m j c
   holders-same {l} {m} e s = count-same n (λ i hi. maximum-same n a e hi) (λ i hi. maximum-same n a (λ x hx. sym (e x hx)) hi) s
 
+  pub column-head-same : {l m : ℕ → ℕ} {j : ℕ} {h : ℤ} {row c : ℕ} → Same n a l m → ColumnHead n a l j h row c → ColumnHead n a m j h row c
+  column-head-same {l} {m} {j} e (held i o is r s) =
+      held i
+      (record {
+        inside = o .inside;
+        maximum = maximum-same n a e (o .inside) (o .maximum);
+        lowest = λ k hk c. o .lowest k hk (maximum-same n a (λ x hx. sym (e x hx)) (omega (arith, o .inside)) c);
+      })
+      (is ∙ ap (λ (x : ℕ). a i j +ℤ pos x) (e i (o .inside))) r (holders-same e s)
+  column-head-same e (empty f is r z) = empty f is r z
+
   pub ties-once : {l m c d : ℕ → ℕ} → Same n a l m → Ties n a l c → Ties n a m d → Same n a c d
   ties-once e s t j hj = count-once (holders-same e (s j hj)) (t j hj)

@@ -13,18 +13,22 @@ use Rattle.theory.proofs.Duality.{balance}
 use Rattle.orders.specs.Refusals.{numbers, Rising, Among, gives, refuses}
 use Rattle.orders.proofs.Refusals.{first-among, first-lowest, not-both}
 use Rattle.handed.specs.Conditions.{table-more, canon-more, star-more}
-use Rattle.handed.proofs.Basics.{additions-right, stars-right, table-rises, canon-rises, star-rises}
+use Rattle.handed.proofs.Basics.{additions-right, stars-right, table-rises, canon-rises, heads-rises, star-rises}
 use Rattle.canon.specs.Answers.{said}
-use Rattle.canon.specs.Demands.{Buffers, lengths, WellFormed, Route, tests, verdict-tests, numbers-of}
+use Rattle.canon.specs.Demands.{Buffers, lengths, HeadBuffers, heads-tests-of, WellFormed, Route, tests, verdict-tests, numbers-of}
 use Rattle.canon.specs.Demands.{Demand1, Answered, Demand2, Demand3, Numbered, Limited}
 use Rattle.canon.specs.declared.Answer.{Answer}
 use Rattle.canon.proofs.Refusing.{past-first}
-use Rattle.canon.proofs.Unique.{solved-once, routed-once, judges-once}
+use Rattle.canon.proofs.Unique.{solved-once, routed-once, judges-once, column-heads-once}
 use Rattle.canon.proofs.Theorems.{Result, routes, same-buffers, routed-refused, routed-due, routed-answers, routed-result, routed-otherwise}
 use Rattle.canon.proofs.Theorems.{formed-sound, own-lengths, clear-formed, clear-leads, alone-clear, canon-clear, greatest-clear, verdict-clear}
 use Rattle.canon.proofs.Theorems.{judged-refused, judged-due, judged-yes, yes-judged, no-judged, simplest-same, result-within}
+use Rattle.canon.proofs.Ties.{same-head-buffers, heads-refused, heads-due}
 
 module _ (n : ℕ) (t : List ℤ) where
+  head-lengths : List ℕ → HeadBuffers → List ℕ
+  head-lengths given b = length given ∷ length (b .heads) ∷ length (b .rows) ∷ length (b .counts) ∷ []
+
   -- the numbers of each route's tests rise
   rises : (start : Handed) (b : Buffers) → Rising (numbers (tests n t start b))
   rises nothing b = table-rises n t (lengths b)
@@ -49,8 +53,17 @@ module _ (n : ℕ) (t : List ℤ) where
               refused = λ k vs v m d p. (judged-refused p k (d .0) ∙ ap (refuses k) (sym (d .1)), refl);
               only-due = λ k vs v m p e. judged-due p k vs e;
             };
+        heads = λ given b.
+            record {
+              once = λ r s b′ c′ p q.
+                  let o = column-heads-once n t given (b .heads) (b .rows) (b .counts) p q in
+                  (o .answer, same-head-buffers b′ c′ (o .same-heads) (o .same-rows) (o .same-counts));
+              refused = λ k vs r b′ d p. let (says, kept) = heads-refused b b′ p k (d .0) in (says ∙ ap (refuses k) (sym (d .1)), kept);
+              only-due = λ k vs r b′ p e. heads-due b b′ p k vs e;
+            };
         routes-lowest = λ start b j k. first-lowest (tests n t start b) j k (rises start b);
         verdict-lowest = λ given j k. first-lowest (verdict-tests n t given) j k (canon-rises n t given (length given ∷ []));
+        heads-lowest = λ given b j k. first-lowest (heads-tests-of n t given b) j k (heads-rises n t given (head-lengths given b));
       }
 
   -- what a route that answers wrote, and that what was handed to it leads
@@ -145,6 +158,7 @@ module _ (n : ℕ) (t : List ℤ) where
       record {
         routes = λ start b b′ r k vs p e. known start b k (first-among (tests n t start b) k (routed-due b b′ (routes n t start b b′ r p) k vs e .0));
         verdict = λ given v k vs p e. first-among (verdict-tests n t given) k (judged-due p k vs e .0);
+        heads = λ given b b′ r k vs p e. first-among (heads-tests-of n t given b) k (heads-due b b′ p k vs e .0);
       }
     where
       known : (start : Handed) (b : Buffers) (k : ℕ) → Among (numbers (tests n t start b)) k → Among (numbers-of start) k

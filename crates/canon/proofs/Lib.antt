@@ -4,5 +4,6 @@ pub mod Answering
 pub mod Solving
 pub mod Unique
 pub mod Theorems
+pub mod Ties
 pub mod Demands
 pub mod Useless

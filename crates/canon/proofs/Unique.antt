@@ -9,16 +9,20 @@ use lib.ListN.{length, getD}
 use lib.Seq.{ext-getD}
 use Rattle.theory.specs.Lists.{nums, ints, columns, StarList}
 use Rattle.theory.specs.Canon.{Solution}
+use Rattle.theory.specs.Table.{entry}
 use Rattle.theory.proofs.Unique.{solution-once}
+use Rattle.theory.proofs.Ties.{column-head-once}
 use Rattle.orders.specs.Refusals.{numberOf, valuesOf, Test, gives}
 use Rattle.orders.proofs.Refusals.{first-clear, refused-once, refusal-once, given-once, not-both}
 use Rattle.handed.specs.Conditions.{canon-tests}
-use Rattle.canon.specs.Answers.{said, judged}
-use Rattle.canon.specs.Promises.{Routed, refused, answered, Judges, declines, says-yes, says-no}
+use Rattle.canon.specs.Answers.{said, judged, told}
+use Rattle.canon.specs.Promises.{Routed, refused, answered, Judges, declines, says-yes, says-no, column-tests, ColumnHeads, leaves, fills}
 use Rattle.canon.specs.declared.Answer.{Answer}
 use Rattle.canon.specs.declared.Answer.the-variants.{Sum, Refused}
 use Rattle.canon.specs.declared.Verdict.{Verdict}
 use Rattle.canon.specs.declared.Verdict.the-variants as verdict
+use Rattle.canon.specs.declared.Filled.{Filled}
+use Rattle.canon.specs.declared.Filled.the-variants as filled
 
 -- ---- an answer is told by what it says
 pub answer-once : (r s : Answer) → said r ≡ said s → r ≡ s
@@ -29,7 +33,7 @@ answer-once (Refused p) (Refused q) e = ap Refused (refusal-once p q e)
 
 -- ---- routes
 -- two lists of one length that agree below it are one
-same-list : {X : Type 0} (d : X) {n : ℕ} (l m : List X) → length l ≡ n → length m ≡ n → ((i : ℕ) → i < n → getD l i d ≡ getD m i d) → l ≡ m
+pub same-list : {X : Type 0} (d : X) {n : ℕ} (l m : List X) → length l ≡ n → length m ≡ n → ((i : ℕ) → i < n → getD l i d ≡ getD m i d) → l ≡ m
 same-list d l m p q e = ext-getD d l m (p ∙ sym q) (λ i hi. e i (omega arith))
 
 -- stars from 1 are told by their columns
@@ -101,3 +105,38 @@ module _ (n : ℕ) (t : List ℤ) (given : List ℕ) where
   judges-once (says-no q x f) (declines j p u) = absurd (first-clear tests j p q)
   judges-once (says-no q x f) (says-yes p y s) = absurd (f s)
   judges-once {v} {w} (says-no q x f) (says-no p y g) = verdict-once v w (x ∙ sym y)
+
+-- ---- the heads of all columns
+pub filled-once : (r s : Filled) → told r ≡ told s → r ≡ s
+filled-once filled.Done filled.Done e = refl
+filled-once filled.Done (filled.Refused q) e = not-both tt (numberOf q) (valuesOf q) e
+filled-once (filled.Refused p) filled.Done e = not-both tt (numberOf p) (valuesOf p) (sym e)
+filled-once (filled.Refused p) (filled.Refused q) e = ap filled.Refused (refusal-once p q e)
+
+-- what two answers to one call have in common: everything
+pub record OneFilling (r s : Filled) (heads heads′ : List ℤ) (rows rows′ counts counts′ : List ℕ) : Type 0 where
+  pub answer : r ≡ s
+  pub same-heads : heads ≡ heads′
+  pub same-rows : rows ≡ rows′
+  pub same-counts : counts ≡ counts′
+
+-- the promise of the heads of all columns determines its answer and the lent memory
+module _ (n : ℕ) (t : List ℤ) (given : List ℕ) (heads : List ℤ) (rows counts : List ℕ) where
+  pub column-heads-once : {r s : Filled} {h k : List ℤ} {a b c d : List ℕ} → ColumnHeads n t given heads rows counts r h a c
+      → ColumnHeads n t given heads rows counts s k b d → OneFilling r s h k a b c d
+  column-heads-once {r} {s} (leaves i p u x y z) (leaves j q v x′ y′ z′) =
+      record {
+        answer = filled-once r s (refused-once (column-tests n t given heads rows counts) p u q v);
+        same-heads = x ∙ sym x′;
+        same-rows = y ∙ sym y′;
+        same-counts = z ∙ sym z′;
+      }
+  column-heads-once (leaves i p u x y z) (fills q v lh lr lc f) = absurd (first-clear (column-tests n t given heads rows counts) i p q)
+  column-heads-once (fills q v lh lr lc f) (leaves i p u x y z) = absurd (first-clear (column-tests n t given heads rows counts) i p q)
+  column-heads-once {r} {s} {h} {k} {a} {b} {c} {d} (fills p u lh lr lc f) (fills q v lh′ lr′ lc′ g) =
+      record {
+        answer = filled-once r s (u ∙ sym v);
+        same-heads = same-list (pos 0) h k lh lh′ (λ j hj. column-head-once n (entry t n) (f j hj) (g j hj) .one-head);
+        same-rows = same-list 0 a b lr lr′ (λ j hj. column-head-once n (entry t n) (f j hj) (g j hj) .one-row);
+        same-counts = same-list 0 c d lc lc′ (λ j hj. column-head-once n (entry t n) (f j hj) (g j hj) .one-count);
+      }

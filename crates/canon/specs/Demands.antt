@@ -5,20 +5,21 @@ use mathlib.Core.Path.{_≡_}
 use mathlib.Core.Logic.{_≢_}
 use mathlib.Core.Bool.{true, false}
 use mathlib.Core.List.{List, [], _∷_}
-use Prim.Native.Nat.{ℕ, _*_, _≤_, _<_}
-use lib.IntN.{ℤ}
+use Prim.Native.Nat.{ℕ, _+_, _*_, _≤_, _<_}
+use lib.IntN.{ℤ, pos}
 use lib.ListN.{length}
 use Rattle.theory.specs.Limits.{row-limit, order-limit, addition-limit, FoundWithin}
 use Rattle.theory.specs.Lists.{nums, ints, columns, StarList}
 use Rattle.theory.specs.Table.{entry, Entries}
-use Rattle.theory.specs.Canon.{SomeTransversal, NoTransversal, Canon, Simplest, Heads, Stars, Balance}
+use Rattle.theory.specs.Canon.{SomeTransversal, NoTransversal, raised, Canon, Simplest, Heads, LowestHolder, EmptyColumn, Ties, Stars, Balance}
 use Rattle.theory.specs.Cases.{Handed, nothing, additions, stars, Answerable}
 use Rattle.orders.specs.Refusals.{Test, Applies, First, Among, due, Proper, gives, refuses}
 use Rattle.handed.specs.Conditions.{TooLarge, WrongStars, NoCanon, NotGreatest, table-tests, canon-tests, star-tests}
-use Rattle.canon.specs.Answers.{said, judged}
-use Rattle.canon.specs.Promises.{Solves, FromCanon, FromStars, Judges}
+use Rattle.canon.specs.Answers.{said, judged, told}
+use Rattle.canon.specs.Promises.{Solves, FromCanon, FromStars, Judges, ColumnHeads, column-tests}
 use Rattle.canon.specs.declared.Answer.{Answer}
 use Rattle.canon.specs.declared.Verdict.{Verdict}
+use Rattle.canon.specs.declared.Filled.{Filled}
 
 -- ---- words
 -- what a route is lent to write into
@@ -32,6 +33,22 @@ buffers a s h = record { adds = a; stars = s; heads = h }
 
 abbrev pub lengths : Buffers → List ℕ
 lengths b = length (b .adds) ∷ length (b .stars) ∷ length (b .heads) ∷ []
+
+-- what the finding of all heads is lent to write into
+pub record HeadBuffers : Type 0 where
+  pub heads : List ℤ
+  pub rows : List ℕ
+  pub counts : List ℕ
+
+abbrev pub headBuffers : List ℤ → List ℕ → List ℕ → HeadBuffers
+headBuffers h r c = record { heads = h; rows = r; counts = c }
+
+-- its promise, where b is lent at the call, r is returned, and b′ is lent afterwards; and what it tests
+abbrev pub FillsHeads : ℕ → List ℤ → List ℕ → HeadBuffers → Filled → HeadBuffers → Type 0
+FillsHeads n t given b r b′ = ColumnHeads n t given (b .heads) (b .rows) (b .counts) r (b′ .heads) (b′ .rows) (b′ .counts)
+
+abbrev pub heads-tests-of : ℕ → List ℤ → List ℕ → HeadBuffers → List Test
+heads-tests-of n t given b = column-tests n t given (b .heads) (b .rows) (b .counts)
 
 -- "a well-formed table"
 pub record WellFormed (n : ℕ) (t : List ℤ) : Type 0 where
@@ -69,9 +86,13 @@ pub record Demand1 (n : ℕ) (t : List ℤ) : Type 0 where
   pub routes : (start : Handed) (b : Buffers) → Proper (due (tests n t start b)) said b (Route n t start b)
   -- the yes-or-no is lent nothing that it could write
   pub verdict : (given : List ℕ) → Proper (due (verdict-tests n t given)) judged (tt {0}) (λ v m. Judges n t given v)
+  -- document 02, request 1: head, lowest row and count of every column
+  pub heads : (given : List ℕ) (b : HeadBuffers) → Proper (due (heads-tests-of n t given b)) told b (FillsHeads n t given b)
   -- document 01: "The lowest number that applies is given"
   pub routes-lowest : (start : Handed) (b : Buffers) (j k : ℕ) → First (tests n t start b) j → Applies (tests n t start b) k → j ≤ k
   pub verdict-lowest : (given : List ℕ) (j k : ℕ) → First (verdict-tests n t given) j → Applies (verdict-tests n t given) k → j ≤ k
+  pub heads-lowest : (given : List ℕ) (b : HeadBuffers) (j k : ℕ) → First (heads-tests-of n t given b) j → Applies (heads-tests-of n t given b) k
+      → j ≤ k
 
 -- what demand 2 says of everything that a route answers
 pub record Answered (n : ℕ) (t : List ℤ) (b : Buffers) : Type 0 where
@@ -154,9 +175,30 @@ pub record Numbered (n : ℕ) (t : List ℤ) : Type 0 where
       → Among (numbers-of start) k
   pub verdict : (given : List ℕ) (v : Verdict) (k : ℕ) (values : List ℕ) → Judges n t given v → judged v ≡ refuses k values
       → Among (numbers-of (additions given)) k
+  pub heads : (given : List ℕ) (b b′ : HeadBuffers) (r : Filled) (k : ℕ) (values : List ℕ) → FillsHeads n t given b r b′ → told r ≡ refuses k values
+      → Among (1 ∷ 2 ∷ 3 ∷ 4 ∷ []) k
 
 -- ---- document 01, the table of limits: what is found
 -- every route keeps within it
 pub record Limited (n : ℕ) (t : List ℤ) : Type 0 where
   pub found : (start : Handed) (b b′ : Buffers) (r : Answer) (s : ℤ) → Route n t start b r b′ → said r ≡ gives s
       → FoundWithin n (nums (b′ .adds)) (ints (b′ .heads)) s
+
+-- ---- document 02, request 1: what `column_heads` tells, where it refuses nothing
+pub record Ties1 (n : ℕ) (t : List ℤ) (given : List ℕ) (b : HeadBuffers) : Type 0 where
+  -- "the lowest row that holds it", in every column with a present order,
+  pub lowest : (j : ℕ) → j < n → (EmptyColumn n (entry t n) j → ⊥)
+      → (i : ℕ) × LowestHolder n (entry t n) (nums given) j i × (nums (b .rows) j ≡ i + 1) × (ints (b .heads) j ≡ raised n (entry t n) (nums given) i j)
+  -- "and how many rows do": the counts are those of the rows that hold a maximum
+  pub counts-are : Ties n (entry t n) (nums given) (nums (b .counts))
+  -- "In a column with no present order head, count and row are 0", and a count is 0 in no other
+  pub empty-zero : (j : ℕ) → j < n → EmptyColumn n (entry t n) j → (ints (b .heads) j ≡ pos 0) × (nums (b .rows) j ≡ 0) × (nums (b .counts) j ≡ 0)
+  pub zero-empty : (j : ℕ) → j < n → nums (b .counts) j ≡ 0 → EmptyColumn n (entry t n) j
+  -- under a canon some row holds each column's head
+  pub canon-counts : Canon n (entry t n) (nums given) → (j : ℕ) → j < n → 1 ≤ nums (b .counts) j
+
+pub record Request1 (n : ℕ) (t : List ℤ) : Type 0 where
+  pub tells : (given : List ℕ) (b b′ : HeadBuffers) (r : Filled) → FillsHeads n t given b r b′ → told r ≡ gives tt → Ties1 n t given b′
+  -- of the additions that a route answers it tells the heads that the route wrote
+  pub route-heads : (start : Handed) (c c′ : Buffers) (q : Answer) (s : ℤ) (b b′ : HeadBuffers) (r : Filled) → Route n t start c q c′ → said q ≡ gives s
+      → FillsHeads n t (c′ .adds) b r b′ → told r ≡ gives tt → b′ .heads ≡ c′ .heads

@@ -17,7 +17,7 @@ use Rattle.orders.specs.declared.Refusal.{Refusal}
 use Rattle.orders.specs.declared.Refusal.the-variants.{Size, Length, Entry}
 use Rattle.orders.proofs.Refusals.{right-not-wrong}
 use Rattle.handed.specs.Conditions.{OutOfSize, each, slices, WrongEntry, TooLarge, WrongStars, under-one, over-size, twice}
-use Rattle.handed.specs.Conditions.{basic, table-tests, canon-tests, star-tests}
+use Rattle.handed.specs.Conditions.{basic, table-tests, canon-tests, heads-tests, star-tests}
 use Rattle.handed.specs.Handed.{Basic}
 use Rattle.handed.specs.declared.FirstTests.the-variants.{Passed, Refused}
 
@@ -99,6 +99,9 @@ table-rises n t ks = omega arith
 
 pub canon-rises : (n : ℕ) (t : List ℤ) (given ks : List ℕ) → Rising (numbers (canon-tests n t given ks))
 canon-rises n t given ks = omega arith
+
+pub heads-rises : (n : ℕ) (t : List ℤ) (given ks : List ℕ) → Rising (numbers (heads-tests n t given ks))
+heads-rises n t given ks = omega arith
 
 pub star-rises : (n : ℕ) (t : List ℤ) (given ks : List ℕ) → Rising (numbers (star-tests n t given ks))
 star-rises n t given ks = omega arith

@@ -71,7 +71,7 @@ tells-below P i false b below this = tells-no (λ all. below .fails refl (λ x h
 pub read-le : {w : Width} {x y : ℤ} → SFits w x → SFits w y → leZ (toZ w (ofZ w x)) (toZ w (ofZ w y)) ≡ true → x ≤ℤ y
 read-le {w} {x} {y} f g t = let u : leZ x y ≡ true = simp (toZ-ofZ) at t in omega (arith, signed)
 
-pub read-gt : {w : Width} {x y : ℤ} → SFits w x → SFits w y → leZ (toZ w (ofZ w x)) (toZ w (ofZ w y)) ≡ false → y ≤ℤ x
+pub read-gt : {w : Width} {x y : ℤ} → SFits w x → SFits w y → leZ (toZ w (ofZ w x)) (toZ w (ofZ w y)) ≡ false → y <ℤ x
 read-gt {w} {x} {y} f g t = let u : leZ x y ≡ false = simp (toZ-ofZ) at t in omega (arith, signed)
 
 pub read-lt : {w : Width} {x y : ℤ} → SFits w x → SFits w y → ltZ (toZ w (ofZ w x)) (toZ w (ofZ w y)) ≡ true → x <ℤ y

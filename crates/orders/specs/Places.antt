@@ -1,10 +1,11 @@
 -- Reading one place of a table that was tested, and a column's head.
 use mathlib.Core.Path.{_≡_}
+use mathlib.Core.Logic.{_⊎_}
 use mathlib.Core.List.{List}
 use Prim.Native.Nat.{ℕ, _+_, _*_, _≤_, _<_}
 use lib.IntN.{ℤ, pos, _+ℤ_}
 use lib.ListN.{length}
-use lib.Signed.{_<ℤ_}
+use lib.Signed.{_≤ℤ_, _<ℤ_}
 use Rattle.theory.specs.Limits.{row-limit}
 use Rattle.theory.specs.Lists.{nums, ints}
 use Rattle.theory.specs.Table.{Present, entry}
@@ -33,12 +34,23 @@ TopOf t n l j r = ColumnHead n (entry t n) (nums l) j (r .head) (r .row) (r .cou
 abbrev pub TopsOf : List ℤ → ℕ → List ℕ → Tops → Type 0
 TopsOf t n l r = (j : ℕ) → j < n → ColumnHead n (entry t n) (nums l) j (ints (r .heads) j) (nums (r .rows) j) (nums (r .counts) j)
 
--- What is known of a column as `top` becomes r when row i is taken in, whose order is v and whose addition is l: nothing changes where the
--- row is absent or below the head; it is one more that holds the head; or, above the head, it is the first that holds the new one.
-pub data TakenIn (i : ℕ) (v : ℤ) (l : ℕ) (top r : Top) : Type 0 where
-  passed : (Present v → (v +ℤ pos l) <ℤ top .head) → r ≡ top → TakenIn i v l top r
-  tied : Present v → v +ℤ pos l ≡ top .head → r .head ≡ top .head → r .row ≡ top .row → r .count ≡ top .count + 1 → TakenIn i v l top r
-  above : Present v → top .head <ℤ (v +ℤ pos l) → r .head ≡ v +ℤ pos l → r .row ≡ i + 1 → r .count ≡ 1 → TakenIn i v l top r
+-- r is the larger of a height and the order v raised by l, where v is present
+pub record Higher (v : ℤ) (l : ℕ) (height r : ℤ) : Type 0 where
+  pub this : Present v → (v +ℤ pos l) ≤ℤ r
+  pub other : height ≤ℤ r
+  pub one : (r ≡ height) ⊎ (Present v × (r ≡ v +ℤ pos l))
+
+-- r is the row, or row i where the height grows
+pub record Lowest (row : ℕ) (height next : ℤ) (i r : ℕ) : Type 0 where
+  pub stays : next ≤ℤ height → r ≡ row
+  pub new : height <ℤ next → r ≡ i
+
+-- r is the count with the order v taken in, raised by l: the same where v is absent or below the height, one more where it reaches it, and
+-- 1 where it is above
+pub record Counted (v : ℤ) (l : ℕ) (height : ℤ) (count r : ℕ) : Type 0 where
+  pub passed : (Present v → (v +ℤ pos l) <ℤ height) → r ≡ count
+  pub tied : Present v → v +ℤ pos l ≡ height → r ≡ count + 1
+  pub alone : Present v → height <ℤ (v +ℤ pos l) → r ≡ 1
 
 -- row-of-column and column-of-row marks of a complete transversal: each undoes the other
 pub record Marks (n : ℕ) (row-of column-of : ℕ → ℕ) : Type 0 where

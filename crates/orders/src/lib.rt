@@ -3,7 +3,7 @@ ghost use Rattle.theory.specs.Table.{Present, Order, Entries};
 ghost use Rattle.theory.specs.Limits.{row-limit, order-limit};
 ghost use Rattle.orders.specs.Refusals.{numberOf};
 ghost use Rattle.orders.specs.Tested.{Tells};
-ghost use Rattle.orders.specs.Places.{ceiling, Square, UnderCeiling, TopOf, TopsOf, TakenIn};
+ghost use Rattle.orders.specs.Places.{ceiling, Square, UnderCeiling, TopOf, TopsOf, Higher, Lowest, Counted};
 ghost use Rattle.theory.specs.Table.{entry};
 ghost use Prim.Native.Nat.{_*_, _≤_, _<_};
 ghost use lib.IntN.{pos, _+ℤ_};
@@ -127,59 +127,84 @@ pub struct Top {
     pub count: u32,
 }
 
-// What is known of a column, with one more of its rows taken in: row i, with this order and addition. Rules out an absent place taken
-// for an order, a later row for the lowest, and a count that goes on where a greater head comes.
-fn taken_in(top: Top, i: usize, order: i16, addition: u32) -> Top
-    requires { ⌜ (addition ≤ ceiling) × (i < row-limit) × (top .count ≤ i) ⌝ }
-    ensures { λ r. ⌜ TakenIn i order addition top r ⌝ }
+// The larger of a height and one more order of the column, raised; an absent place is passed over. Rules out the smaller of the two,
+// an absent place taken for an order, and a height of no row.
+fn higher(height: i32, order: i16, addition: u32) -> i32
+    requires { ⌜ addition ≤ ceiling ⌝ }
+    ensures { λ r. ⌜ Higher order addition height r ⌝ }
 {
     if order == ABSENT {
-        return top;
+        return height;
     }
     let raised = raise(order, addition);
-    if raised < top.head {
-        return top;
+    if raised <= height {
+        return height;
     }
-    if raised == top.head {
-        return Top {
-            head: raised,
-            row: top.row,
-            count: top.count + 1,
-        };
-    }
-    Top {
-        head: raised,
-        row: i as u32 + 1,
-        count: 1,
-    }
+    raised
 }
 
-// Head, lowest row and count of column j with the additions given. The head begins below every raised order, and is still there where
-// the column has none. Rules out a head that no order reaches or that one exceeds, another row than the lowest that holds it, a tie
-// left out, and anything but 0 in a column with no order.
+// The lowest row that holds the height, once row i is taken in. Rules out a later row where the height stays, and an earlier one where
+// it grows.
+fn lowest(row: usize, height: i32, next: i32, i: usize) -> usize
+    ensures { λ r. ⌜ Lowest row height next i r ⌝ }
+{
+    if next <= height {
+        return row;
+    }
+    i
+}
+
+// How many rows hold the height, once one more entry of the column is taken in. Rules out an absent place counted, a tie left out, and
+// a count that goes on where the height grows.
+fn counted(count: u32, height: i32, entry: i16, addition: u32) -> u32
+    requires { ⌜ (count < row-limit) × (addition ≤ ceiling) ⌝ }
+    ensures { λ r. ⌜ Counted entry addition height count r ⌝ }
+{
+    if entry == ABSENT {
+        return count;
+    }
+    let raised = raise(entry, addition);
+    if raised < height {
+        return count;
+    }
+    if raised == height {
+        return count + 1;
+    }
+    1
+}
+
+// Head, lowest row and count of column j with the additions given. The height begins below every raised order, and is still there where
+// the column has none; the row is counted from 0 until then. Row and count have functions of their own, so that a caller who asks for
+// the head alone has them dropped by the compiler. Rules out a head that no order reaches or that one exceeds, another row than
+// the lowest that holds it, a tie left out, and anything but 0 in a column with no order.
 pub fn head(table: &[i16], n: usize, additions: &[u32; ROWS], j: usize) -> Top
     requires { ⌜ Square (now table) n × (j < n) × UnderCeiling n (now additions) ⌝ }
     ensures { λ r. ⌜ TopOf (now (table .entry)) n (now (additions .entry)) j r ⌝ }
 {
-    let mut top = Top {
-        head: ABSENT as i32,
-        row: 0,
-        count: 0,
-    };
+    let mut height = ABSENT as i32;
+    let mut row = 0;
+    let mut count = 0;
     let mut i = 0;
     while i < n {
         let order = place(table, n, i, j);
-        top = taken_in(top, i, order, additions[i]);
+        let next = higher(height, order, additions[i]);
+        row = lowest(row, height, next, i);
+        count = counted(count, height, order, additions[i]);
+        height = next;
         i += 1;
     }
-    if top.row == 0 {
+    if height <= ABSENT as i32 {
         return Top {
             head: 0,
             row: 0,
             count: 0,
         };
     }
-    top
+    Top {
+        head: height,
+        row: row as u32 + 1,
+        count,
+    }
 }
 
 // Head, lowest row and count of every column, as `Top` has them of one.

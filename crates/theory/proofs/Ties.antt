@@ -8,7 +8,7 @@ use lib.IntN.{ℤ, pos, _+ℤ_}
 use lib.Signed.{_≤ℤ_, _<ℤ_, ≤ℤ-refl}
 use Rattle.theory.specs.Table.{Present}
 use Rattle.theory.specs.Totals.{Count, none, one-more, passed-over}
-use Rattle.theory.specs.Canon.{NoTransversal, raised, Maximum, Canon, Head, LowestHolder, Holders, ColumnHead, held, empty, Ties}
+use Rattle.theory.specs.Canon.{NoTransversal, raised, Maximum, Canon, Head, LowestHolder, Holders, EmptyColumn, ColumnHead, held, empty, Ties}
 use Rattle.theory.proofs.Signed.{signed}
 use Rattle.theory.proofs.Counts.{count-once, count-same, count-none, count-some}
 use Rattle.theory.proofs.Pigeonhole.{onto}
@@ -85,9 +85,6 @@ pub record OneHead (h h′ : ℤ) (row row′ c c′ : ℕ) : Type 0 where
   pub one-count : c ≡ c′
 
 module _ (n : ℕ) (a : ℕ → ℕ → ℤ) where
-  abbrev pub EmptyColumn : ℕ → Type 0
-  EmptyColumn j = (i : ℕ) → i < n → Present (a i j) → ⊥
-
   module _ {l : ℕ → ℕ} {j : ℕ} where
     -- no two rows are the lowest
     pub lowest-once : {i k : ℕ} → LowestHolder n a l j i → LowestHolder n a l j k → i ≡ k
@@ -98,13 +95,23 @@ module _ (n : ℕ) (a : ℕ → ℕ → ℤ) where
         ]
 
     -- where no order is present, no row holds a maximum
-    pub empty-holders : EmptyColumn j → Holders n a l j 0
+    pub empty-holders : EmptyColumn n a j → Holders n a l j 0
     empty-holders none-there = count-none n (λ i hi m. none-there i hi (m .present))
 
     -- the count is that of the rows with a maximum, in an empty column too
     pub head-holders : {h : ℤ} {row c : ℕ} → ColumnHead n a l j h row c → Holders n a l j c
     head-holders (held i o e r s) = s
     head-holders (empty f e r z) = rw z (empty-holders f)
+
+    -- a column with a present order has the row of its lowest holder and the head that this row holds; one without has zeros
+    pub head-lowest : {h : ℤ} {row c : ℕ} → ColumnHead n a l j h row c → (EmptyColumn n a j → ⊥)
+        → (i : ℕ) × LowestHolder n a l j i × (row ≡ i + 1) × (h ≡ raised n a l i j)
+    head-lowest (held i o e r s) some = (i, o, r, e)
+    head-lowest (empty f e r z) some = absurd (some f)
+
+    pub head-empty : {h : ℤ} {row c : ℕ} → ColumnHead n a l j h row c → EmptyColumn n a j → (h ≡ pos 0) × (row ≡ 0) × (c ≡ 0)
+    head-empty (held i o e r s) none-there = absurd (none-there i (o .inside) (o .maximum .present))
+    head-empty (empty f e r z) none-there = (e, r, z)
 
     -- head, row and count are determined
     pub column-head-once : {h h′ : ℤ} {row row′ c c′ : ℕ} → ColumnHead n a l j h row c → ColumnHead n a l j h′ row′ c′ → OneHead h h′ row row′ c c′
@@ -116,7 +123,7 @@ module _ (n : ℕ) (a : ℕ → ℕ → ℤ) where
     column-head-once (empty f x y z) (empty g x′ y′ z′) = record { one-head = x ∙ sym x′; one-row = y ∙ sym y′; one-count = z ∙ sym z′ }
 
     -- the row is 0 exactly where no order is present; elsewhere the head is one
-    pub no-row : {h : ℤ} {row c : ℕ} → ColumnHead n a l j h row c → row ≡ 0 → EmptyColumn j
+    pub no-row : {h : ℤ} {row c : ℕ} → ColumnHead n a l j h row c → row ≡ 0 → EmptyColumn n a j
     no-row (held k o e r s) z = absurd (omega arith)
     no-row (empty f e r c) z = f
 

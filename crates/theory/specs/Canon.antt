@@ -78,10 +78,14 @@ module _ (n : ℕ) (a : ℕ → ℕ → ℤ) where
   abbrev pub Holders : (ℕ → ℕ) → ℕ → ℕ → Type 0
   Holders l j c = Count (λ i. Maximum l i j) n c
 
+  -- "a column with no present order"
+  abbrev pub EmptyColumn : ℕ → Type 0
+  EmptyColumn j = (i : ℕ) → i < n → Present (a i j) → ⊥
+
   -- the head of column j, the row, numbered from 1, and the count. "In a column with no present order head, count and row are 0."
   pub data ColumnHead (l : ℕ → ℕ) (j : ℕ) (h : ℤ) (row count : ℕ) : Type 0 where
     held : (i : ℕ) → LowestHolder l j i → h ≡ raised l i j → row ≡ i + 1 → Holders l j count → ColumnHead l j h row count
-    empty : ((i : ℕ) → i < n → Present (a i j) → ⊥) → h ≡ pos 0 → row ≡ 0 → count ≡ 0 → ColumnHead l j h row count
+    empty : EmptyColumn j → h ≡ pos 0 → row ≡ 0 → count ≡ 0 → ColumnHead l j h row count
 
   -- "a section `ties N` .., one count a column"
   abbrev pub Ties : (ℕ → ℕ) → (ℕ → ℕ) → Type 0

@@ -38,7 +38,7 @@ excess-requires c κs =
     let g : SFits w16 (s .args .other) = s .fits .other in
     let e = simp (toZ-ofZ f) at (c .if1 .left) in
     rw (toZ-ofZ f, toZ-ofZ (fits (c .before))) (
-      read-gt (fits (c .before)) (sfits-widen tt f) e,
+      omega (arith, signed, read-gt (fits (c .before)) (sfits-widen tt f) e),
       omega (arith, signed, raised (c .before), plus (s .args .other) (pos (s .args .addition)), s .pre),
     )
 

@@ -1,0 +1,67 @@
+-- What the promise of `column_heads` gives: about the promise, not about the code. Assumes nothing.
+use mathlib.Core.Path.{_≡_, refl, sym, _∙_, ap}
+use mathlib.Core.List.{List, []}
+use Prim.Native.Nat.{ℕ, _<_}
+use lib.IntN.{ℤ, pos}
+use lib.ListN.{length}
+use Rattle.theory.specs.Lists.{nums, ints}
+use Rattle.theory.specs.Table.{entry}
+use Rattle.theory.specs.Cases.{Handed}
+use Rattle.theory.specs.Canon.{ColumnHead}
+use Rattle.theory.proofs.Duality.{head-once}
+use Rattle.theory.proofs.Ties.{head-lowest, head-holders, head-empty, none-holds, canon-holders, column-head}
+use Rattle.orders.specs.Refusals.{Said, First, gives, refuses}
+use Rattle.orders.proofs.Refusals.{first-once, first-clear, not-both}
+use Rattle.canon.specs.Answers.{said, told}
+use Rattle.canon.specs.Promises.{leaves, fills}
+use Rattle.canon.specs.Demands.{Buffers, HeadBuffers, headBuffers, FillsHeads, heads-tests-of, Route, Ties1, Request1}
+use Rattle.canon.specs.declared.Answer.{Answer}
+use Rattle.canon.specs.declared.Filled.{Filled}
+use Rattle.canon.proofs.Unique.{same-list}
+use Rattle.canon.proofs.Theorems.{routes, routed-result}
+
+-- ---- refusals
+pub same-head-buffers : (b c : HeadBuffers) → b .heads ≡ c .heads → b .rows ≡ c .rows → b .counts ≡ c .counts → b ≡ c
+same-head-buffers b c x y z =
+    ap (λ v. headBuffers v (b .rows) (b .counts)) x ∙ ap (λ v. headBuffers (c .heads) v (b .counts)) y ∙ ap (λ v. headBuffers (c .heads) (c .rows) v) z
+
+module _ {n : ℕ} {t : List ℤ} {given : List ℕ} {r : Filled} (b b′ : HeadBuffers) where
+  pub heads-refused : FillsHeads n t given b r b′ → (k : ℕ) → First (heads-tests-of n t given b) k → (told r ≡ refuses k []) × (b′ ≡ b)
+  heads-refused (leaves j q says x y z) k l =
+      (says ∙ ap (λ (i : ℕ). refuses i []) (first-once (heads-tests-of n t given b) j k q l), same-head-buffers b′ b x y z)
+  heads-refused (fills clear says lh lr lc f) k l = absurd (first-clear (heads-tests-of n t given b) k l clear)
+
+  pub heads-due : FillsHeads n t given b r b′ → (k : ℕ) (vs : List ℕ) → told r ≡ refuses k vs → First (heads-tests-of n t given b) k × (vs ≡ [])
+  heads-due (leaves j q says x y z) k vs e =
+      let h : _≡_ {A = Said Unit} (refuses j []) (refuses k vs) = sym says ∙ e in
+      let same : j ≡ k = cc in
+      let none : vs ≡ [] = cc in
+      (rw same at q, none)
+  heads-due (fills clear says lh lr lc f) k vs e = not-both tt k vs (sym says ∙ e)
+
+  pub heads-told : FillsHeads n t given b r b′ → told r ≡ gives tt
+      → (length (b′ .heads) ≡ n) × ((j : ℕ) → j < n → ColumnHead n (entry t n) (nums given) j (ints (b′ .heads) j) (nums (b′ .rows) j) (nums (b′ .counts) j))
+  heads-told (leaves k q says x y z) e = not-both tt k [] (sym e ∙ says)
+  heads-told (fills clear says lh lr lc f) e = (lh, f)
+
+-- ---- request 1
+module _ (n : ℕ) (t : List ℤ) where
+  pub request-1 : Request1 n t
+  request-1 =
+      record {
+        tells = λ given b b′ r p e.
+            let f = heads-told b b′ p e .1 in
+            record {
+              lowest = λ j hj some. head-lowest n (entry t n) (f j hj) some;
+              counts-are = λ j hj. head-holders n (entry t n) (f j hj);
+              empty-zero = λ j hj none. head-empty n (entry t n) (f j hj) none;
+              zero-empty = λ j hj z. none-holds n (entry t n) (rw z at (head-holders n (entry t n) (f j hj)));
+              canon-counts = λ c j hj. canon-holders n (entry t n) c hj (head-holders n (entry t n) (f j hj));
+            };
+        route-heads = λ start c c′ q s b b′ r p e u g.
+            let w = routed-result c c′ (routes n t start c c′ q p) s e .1 in
+            let (long, f) = heads-told b b′ u g in
+            same-list (pos 0) (b′ .heads) (c′ .heads) long (w .heads-long) (λ j hj.
+            let h = w .solution .heads j hj in
+            head-once n (entry t n) (column-head n (entry t n) (f j hj) (h .inside) (h .maximum .present)) h);
+      }

@@ -4,11 +4,12 @@ use mathlib.Core.List.{List, [], _∷_}
 use Prim.Native.Nat.{ℕ}
 use lib.IntN.{ℤ}
 use Rattle.orders.specs.Refusals.{Test, Said, gives, refuses}
-use Rattle.canon.specs.Answers.{said, judged}
-use Rattle.canon.specs.Promises.{Routed, Judges}
+use Rattle.canon.specs.Answers.{said, judged, told}
+use Rattle.canon.specs.Promises.{Routed, Judges, ColumnHeads}
 use Rattle.canon.specs.declared.Answer.{Answer}
 use Rattle.canon.specs.declared.Verdict.{Verdict}
-use Rattle.canon.proofs.Unique.{routed-once, judges-once}
+use Rattle.canon.specs.declared.Filled.{Filled}
+use Rattle.canon.proofs.Unique.{routed-once, judges-once, column-heads-once}
 use Rattle.reader.specs.Promise.{ReadPromise, Lent}
 use Rattle.reader.specs.Promise as reader
 use Rattle.reader.specs.declared.Read.{Read}
@@ -21,7 +22,7 @@ use Rattle.printing.specs.Promise.{PrintPromise}
 use Rattle.printing.specs.Promise as printing
 use Rattle.printing.specs.declared.Printed.{Printed}
 use Rattle.printing.proofs.Unique.{print-once}
-use Rattle.telling.specs.Telling.{Returns, gave, kept-back, itself, bit, ReturnsRead, read, at-line, refused}
+use Rattle.telling.specs.Telling.{Returns, gave, kept-back, itself, nothing, bit, ReturnsRead, read, at-line, refused}
 use Rattle.exports.specs.Told.{Told, ToldRead}
 
 -- what an answer is returned as
@@ -61,6 +62,15 @@ route-once f g =
 pub verdict-once : {n : ℕ} {t : List ℤ} {given : List ℕ} {r q yes after other : ℕ} → Told (λ (x : Verdict). Judges n t given x) judged bit r yes after
     → Told (λ (x : Verdict). Judges n t given x) judged bit q yes other → (r ≡ q) × (after ≡ other)
 verdict-once {n} {t} {given} f g = told-once f g (judges-once n t given (f .promised) (g .promised))
+
+-- The heads of all columns: what is returned, and the three lists.
+pub filling-once : {n : ℕ} {t : List ℤ} {given rows counts a b c d : List ℕ} {heads e f : List ℤ} {r q : ℕ}
+    → Told (λ (x : Filled). ColumnHeads n t given heads rows counts x e a c) told itself r nothing nothing
+    → Told (λ (x : Filled). ColumnHeads n t given heads rows counts x f b d) told itself q nothing nothing
+    → (r ≡ q) × (e ≡ f) × (a ≡ b) × (c ≡ d)
+filling-once {n} {t} {given} {rows} {counts} {heads = heads} f g =
+    let o = column-heads-once n t given heads rows counts (f .promised) (g .promised) in
+    (told-once f g (o .answer) .0, o .same-heads, o .same-rows, o .same-counts)
 
 -- The writer: what is returned, the length and the room.
 pub writing-once : {h : Model} {o p p′ : List ℕ} {r q length after other : ℕ}

@@ -1,7 +1,8 @@
-ghost use Rattle.canon.specs.Answers.{said, judged};
-ghost use Rattle.canon.specs.Promises.{Solves, FromCanon, FromStars, Judges};
+ghost use Rattle.canon.specs.Answers.{said, judged, told};
+ghost use Rattle.canon.specs.Promises.{Solves, FromCanon, FromStars, Judges, ColumnHeads};
 ghost use Rattle.canon.specs.declared.Verdict.{Verdict};
 ghost use Rattle.canon.specs.declared.Answer.{Answer};
+ghost use Rattle.canon.specs.declared.Filled.{Filled};
 ghost use Rattle.reader.specs.Promise.{ReadPromise, lent};
 ghost use Rattle.reader.specs.Promise as reader;
 ghost use Rattle.reader.specs.declared.Read.{Read};
@@ -11,8 +12,9 @@ ghost use Rattle.writer.specs.declared.Written.{Written};
 ghost use Rattle.printing.specs.Promise.{PrintPromise};
 ghost use Rattle.printing.specs.Promise as printing;
 ghost use Rattle.printing.specs.declared.Printed.{Printed};
-ghost use Rattle.telling.specs.Telling.{itself, bit};
+ghost use Rattle.telling.specs.Telling.{itself, nothing, bit};
 ghost use Rattle.exports.specs.Told.{Told, ToldRead};
+use telling::tell_filled;
 use telling::tell_printed;
 use telling::tell_read;
 use telling::tell_sum;
@@ -96,6 +98,29 @@ pub extern "C" fn canon_is_simplest(n: usize, table: &[i16], given: &[u32], yes:
 {
     let verdict = canon::is_simplest(n, table, given);
     tell_verdict(verdict, yes)
+}
+
+// Head, lowest row and count of every column. Rules out lists written in each other's places, another N than the caller's, and what
+// tell_filled rules out.
+#[no_mangle]
+pub extern "C" fn canon_column_heads(
+    n: usize,
+    table: &[i16],
+    given: &[u32],
+    heads: &mut [i32],
+    rows: &mut [u32],
+    counts: &mut [u32],
+) -> u32
+    ensures { λ r. ⌜
+        Told
+        (λ (a : Filled).
+        ColumnHeads n (now (table .entry)) (now (given .entry)) (now (heads .entry)) (now (rows .entry)) (now (counts .entry)) a
+        (now (heads .exit)) (now (rows .exit)) (now (counts .exit)))
+        told itself r nothing nothing
+        ⌝ }
+{
+    let answer = canon::column_heads(n, table, given, heads, rows, counts);
+    tell_filled(answer)
 }
 
 // The reader. Rules out rows' labels in the columns' place, N in the line's, and what tell_read rules out.

@@ -1,2 +1,3 @@
 pub mod Verdicts
+pub mod Fillings
 pub mod Lines

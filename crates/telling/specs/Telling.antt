@@ -15,6 +15,10 @@ pub data Returns {X Y : Type 0} (code : X → Y) (said : Said X) (r : ℕ) (befo
 abbrev pub itself : {X : Type 0} → X → X
 itself x = x
 
+-- what the single result of a call holds that has none
+abbrev pub nothing : Unit {0}
+nothing = tt
+
 -- 1 or 0
 abbrev pub bit : Bool → ℕ
 bit true = 1

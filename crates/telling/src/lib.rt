@@ -1,9 +1,10 @@
-ghost use Rattle.canon.specs.Answers.{said, judged};
+ghost use Rattle.canon.specs.Answers.{said, judged, told};
 ghost use Rattle.reader.specs.Promise as reader;
 ghost use Rattle.writer.specs.Promise as writer;
 ghost use Rattle.printing.specs.Promise as printing;
-ghost use Rattle.telling.specs.Telling.{Returns, ReturnsRead, itself, bit};
+ghost use Rattle.telling.specs.Telling.{Returns, ReturnsRead, itself, nothing, bit};
 use canon::Answer;
+use canon::Filled;
 use canon::Verdict;
 use orders::Refusal;
 use orders::number;
@@ -38,6 +39,16 @@ pub fn tell_verdict(verdict: Verdict, yes: &mut u8) -> u32
             0
         }
         Verdict::Refused(refusal) => number(refusal),
+    }
+}
+
+// The heads of all columns, which have no single result. Rules out a refusal told as success, and another number than the refusal's.
+pub fn tell_filled(answer: Filled) -> u32
+    ensures { λ r. ⌜ Returns itself (told answer) r nothing nothing ⌝ }
+{
+    match answer {
+        Filled::Done => 0,
+        Filled::Refused(refusal) => number(refusal),
     }
 }
 

@@ -12,11 +12,12 @@ pub record Figures : Type 0 where
   pub adds : List ℕ
   pub stars : List ℕ
   pub heads : List ℤ
+  pub ties : List ℕ
   pub sum : ℤ
   pub index : ℕ
 
-abbrev pub figures : List ℕ → List ℕ → List ℤ → ℤ → ℕ → Figures
-figures a s h v x = record { adds = a; stars = s; heads = h; sum = v; index = x }
+abbrev pub figures : List ℕ → List ℕ → List ℤ → List ℕ → ℤ → ℕ → Figures
+figures a s h c v x = record { adds = a; stars = s; heads = h; ties = c; sum = v; index = x }
 
 -- ---- sections
 -- a section: "its name", and "the values" as they are printed
@@ -31,12 +32,14 @@ numbers name l = record { name = ascii name; values = map text l }
 abbrev pub integers : String → List ℤ → Section
 integers name l = record { name = ascii name; values = map signed l }
 
--- the sections of an answer. "Additions, starred columns and heads stand in row or column order."
+-- the sections of an answer. "Additions, starred columns and heads stand in row or column order." Document 02, request 1: "the
+-- printed answer gets a section `ties N` after `heads`, one count a column".
 abbrev pub sections : Figures → List Section
 sections f =
     numbers "adds" (f .adds)
     ∷ numbers "stars" (f .stars)
     ∷ integers "heads" (f .heads)
+    ∷ numbers "ties" (f .ties)
     ∷ integers "sum" (f .sum ∷ [])
     ∷ numbers "index" (f .index ∷ [])
     ∷ []

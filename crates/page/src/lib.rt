@@ -12,7 +12,7 @@ use orders::number;
 use sheet::FEED;
 
 // The sections of an answer.
-const SECTIONS: usize = 5;
+const SECTIONS: usize = 6;
 
 // Numbers, one a line. Rules out a number left out, two on a line, and a byte changed behind them.
 fn put_number_lines(values: &[u32], out: &mut [u8]) -> usize
@@ -68,19 +68,21 @@ fn put_section(
     adds: &[u32],
     stars: &[u32],
     heads: &[i32],
+    ties: &[u32],
     sum: i32,
     index: u32,
     out: &mut [u8],
 ) -> usize
-    requires { ⌜ SectionFits k (figures (now adds) (now stars) (now heads) sum index) (now out) ⌝ }
-    ensures { λ r. ⌜ Puts (sectionAt k (figures (now (adds .entry)) (now (stars .entry)) (now (heads .entry)) sum index))
+    requires { ⌜ SectionFits k (figures (now adds) (now stars) (now heads) (now ties) sum index) (now out) ⌝ }
+    ensures { λ r. ⌜ Puts (sectionAt k (figures (now (adds .entry)) (now (stars .entry)) (now (heads .entry)) (now (ties .entry)) sum index))
         (now (out .entry)) (now (out .exit)) r ⌝ }
 {
     match k {
         0 => put_numbers(b"adds ", adds, out),
         1 => put_numbers(b"stars ", stars, out),
         2 => put_integers(b"heads ", heads, out),
-        3 => put_integers(b"sum ", &[sum; 1], out),
+        3 => put_numbers(b"ties ", ties, out),
+        4 => put_integers(b"sum ", &[sum; 1], out),
         _ => put_numbers(b"index ", &[index; 1], out),
     }
 }
@@ -90,18 +92,19 @@ pub fn put_figures(
     adds: &[u32],
     stars: &[u32],
     heads: &[i32],
+    ties: &[u32],
     sum: i32,
     index: u32,
     page: &mut [u8],
 ) -> usize
-    requires { ⌜ length (printed (gives (figures (now adds) (now stars) (now heads) sum index))) ≤ length (now page) ⌝ }
-    ensures { λ r. ⌜ Puts (printed (gives (figures (now (adds .entry)) (now (stars .entry)) (now (heads .entry)) sum index)))
+    requires { ⌜ length (printed (gives (figures (now adds) (now stars) (now heads) (now ties) sum index))) ≤ length (now page) ⌝ }
+    ensures { λ r. ⌜ Puts (printed (gives (figures (now (adds .entry)) (now (stars .entry)) (now (heads .entry)) (now (ties .entry)) sum index)))
         (now (page .entry)) (now (page .exit)) r ⌝ }
 {
     let mut at: usize = 0;
     let mut k = 0;
     while k < SECTIONS {
-        at += put_section(k, adds, stars, heads, sum, index, &mut page[at..]);
+        at += put_section(k, adds, stars, heads, ties, sum, index, &mut page[at..]);
         k += 1;
     }
     at

@@ -17,15 +17,15 @@ abbrev none : Section
 none = numbers "" []
 
 abbrev Inv-loop : tie.InvT-loop
-Inv-loop adds stars heads sum index page₀ at₀ k₀ page at k =
-    Joined sectionText (sections (figures adds stars heads (toZ w32 sum) index)) page₀ page at k
+Inv-loop adds stars heads ties sum index page₀ at₀ k₀ page at k =
+    Joined sectionText (sections (figures adds stars heads ties (toZ w32 sum) index)) page₀ page at k
 
 abbrev μ-loop : tie.MeasureT-loop
-μ-loop adds stars heads sum index page₀ at₀ k₀ page at k = length (sections (figures adds stars heads (toZ w32 sum) index)) - k
+μ-loop adds stars heads ties sum index page₀ at₀ k₀ page at k = length (sections (figures adds stars heads ties (toZ w32 sum) index)) - k
 
 loop-holds : tie.Need-loop-holds Inv-loop μ-loop
 loop-holds c =
-    let s = c .before .before .before in
+    let s = c .before .before .before .before in
     rw (toZ-ofZ (s .fits .sum)) (joined-none sectionText _ (s .args .page .now) (s .pre))
 
 sub-put-section : tie.Need-sub-put-section Inv-loop μ-loop
@@ -57,7 +57,7 @@ same-length c = joined-length (c .before .loop .inv)
 
 returns : tie.Need-returns Inv-loop μ-loop
 returns c =
-    let s = c .before .before .before .before .before in
+    let s = c .before .before .before .before .before .before in
     rw (toZ-ofZ (s .fits .sum)) at (joined-all (c .before .loop .inv) (omega arith))
 
 pub put-figures-spec : {M : Type 1} → statement M

@@ -11,6 +11,7 @@ use Rattle.theory.specs.Limits.{row-limit, sheet-limit}
 use Rattle.theory.specs.Lists.{nums, ints}
 use Rattle.theory.specs.Table.{Order}
 use Rattle.theory.proofs.Signed.{signed as signs}
+use Rattle.theory.proofs.Counts.{count-most}
 use Rattle.orders.specs.Refusals.{Said, refuses}
 use Rattle.handed.specs.Handed.{Sound}
 use Rattle.handed.proofs.Basics.{in-size, sized}
@@ -116,11 +117,13 @@ figures-short n t f h p =
     (λ k i.
     let j : k < n = omega (arith, p .heads-long) in
     record { low = omega (arith, signs, w .head-least k j); high = omega (arith, signs, w .head-most k j) }) in
+    let ties = numbers-short "ties" (f .ties) (omega arith) (omega (arith, p .ties-long))
+    (λ k i. omega (arith, count-most n (p .is-ties k (omega (arith, p .ties-long))))) in
     let sum = integers-short "sum" (f .sum ∷ []) (omega arith) (omega arith)
     (only (Order widest) (f .sum) (pos 0) (record { low = omega (arith, signs, w .sum-least); high = omega (arith, signs, w .sum-most) })) in
     let index = numbers-short "index" (f .index ∷ []) (omega arith) (omega arith)
     (only (λ v. v ≤ widest) (f .index) 0 (omega (arith, x .is, w .addition-most (x .row) (x .inside)))) in
-    adds also stars also heads also sum also index also none
+    adds also stars also heads also ties also sum also index also none
 
 none-printed : printed (refuses 6 []) ≡ ascii "refused 6\n"
 unfolding text digits

@@ -1,4 +1,5 @@
--- For the pendulum's sheet the promise of printing leaves one answer open: document 01's, byte by byte. Assumes nothing.
+-- For the pendulum's sheet the promise of printing leaves one answer open: document 01's with request 1's ties, byte by byte. Assumes
+-- nothing.
 use mathlib.Core.Path.{_≡_, refl, sym, ap, _∙_}
 use mathlib.Core.Logic.{_≢_}
 use mathlib.Core.Bool.{Bool, _&&_}
@@ -6,13 +7,16 @@ use mathlib.Core.List.{List, [], _∷_, flatMap}
 use Prim.Native.Nat.{ℕ, zero, suc, _-_, _≤_, _<_}
 use native.Mathlib.Omega.{arith}
 use lib.Dec.{T, leb, leb→le}
-use lib.IntN.{pos}
+use lib.IntN.{ℤ, pos, _+ℤ_}
 use lib.ListN.{length, getD}
-use Rattle.theory.specs.Canon.{Index}
+use Rattle.theory.specs.Totals.{none, one-more, passed-over}
+use Rattle.theory.specs.Canon.{Maximum, Ties, Index}
 use Rattle.theory.specs.Cases.{Right, nothing, answer, pendulum}
-use Rattle.theory.specs.Table.{entry}
-use Rattle.theory.specs.Lists.{nums}
+use Rattle.theory.specs.Table.{absent, Present, entry}
+use Rattle.theory.specs.Lists.{nums, ints}
 use Rattle.theory.proofs.Cases.{cases-right}
+use Rattle.theory.proofs.Duality.{head-maximum}
+use Rattle.theory.proofs.Signed.{signed}
 use Rattle.theory.proofs.Search.{all, all-told, both, every, every-told}
 use Rattle.orders.specs.Refusals.{Said, gives, refuses}
 use Rattle.sheet.specs.Text.{ascii, over, text, digits}
@@ -33,7 +37,7 @@ drawn =
     }
 
 abbrev shown : Figures
-shown = figures (0 ∷ 0 ∷ 2 ∷ []) (1 ∷ 3 ∷ 2 ∷ []) (pos 2 ∷ pos 2 ∷ pos 0 ∷ []) (pos 2) 2
+shown = figures (0 ∷ 0 ∷ 2 ∷ []) (1 ∷ 3 ∷ 2 ∷ []) (pos 2 ∷ pos 2 ∷ pos 0 ∷ []) (2 ∷ 2 ∷ 2 ∷ []) (pos 2) 2
 
 -- both are computed: the one sheet of the labelled table, and the printed figures
 sheet-is : sheetOf drawn ≡ pendulum-sheet
@@ -122,6 +126,26 @@ index = record { row = 2; inside = omega arith; is = refl; largest = most }
     most (suc (suc zero)) h = omega arith
     most (suc (suc (suc i))) h = absurd (omega arith)
 
+-- Every column has one absent place, and its two orders hold the head: raised by 0 0 2 the rows are 2 - 0 / - 2 0 / 2 2 -.
+ties : Ties 3 (entry pendulum 3) (nums (shown .adds)) (nums (shown .ties))
+ties = go
+  where
+    there : (v : ℕ) → Present (pos v)
+    there v e = omega (arith, signed, e)
+
+    holds : (i j : ℕ) → j < 3 → Present (entry pendulum 3 i j) → (entry pendulum 3 i j +ℤ pos (nums (shown .adds) i)) ≡ ints (shown .heads) j
+        → Maximum 3 (entry pendulum 3) (nums (shown .adds)) i j
+    holds i j h p e = head-maximum 3 (entry pendulum 3) (right .comes .4 .heads j h) p e
+
+    out : (i j : ℕ) → entry pendulum 3 i j ≡ absent → Maximum 3 (entry pendulum 3) (nums (shown .adds)) i j → ⊥
+    out i j e m = m .present e
+
+    go : Ties 3 (entry pendulum 3) (nums (shown .adds)) (nums (shown .ties))
+    go zero h = one-more (passed-over (one-more none (holds 0 0 h (there 2) refl)) (out 1 0 refl)) (holds 2 0 h (there 0) refl)
+    go (suc zero) h = one-more (one-more (passed-over none (out 0 1 refl)) (holds 1 1 h (there 2) refl)) (holds 2 1 h (there 0) refl)
+    go (suc (suc zero)) h = passed-over (one-more (one-more none (holds 0 2 h (there 0) refl)) (holds 1 2 h (there 0) refl)) (out 2 2 refl)
+    go (suc (suc (suc j))) h = absurd (omega arith)
+
 says : SheetSays pendulum-sheet (gives shown)
 says =
     of-table drawn (omega arith) (record { stands = stands; is = sym sheet-is })
@@ -130,7 +154,9 @@ says =
       adds-long = refl;
       star-list = right .comes .1;
       heads-long = refl;
+      ties-long = refl;
       solution = right .comes .4;
+      is-ties = ties;
       is-index = index;
     })
     refl)

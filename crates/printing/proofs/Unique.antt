@@ -10,6 +10,7 @@ use Rattle.theory.specs.Lists.{nums, columns, StarList}
 use Rattle.theory.specs.Table.{entry}
 use Rattle.theory.specs.Canon.{NoTransversal}
 use Rattle.theory.proofs.Unique.{solution-once, index-once}
+use Rattle.theory.proofs.Ties.{ties-once}
 use Rattle.orders.specs.Refusals.{numberOf, valuesOf, Said, gives, refuses}
 use Rattle.orders.proofs.Refusals.{refusal-once, given-once, not-both}
 use Rattle.sheet.specs.Text.{over}
@@ -45,13 +46,16 @@ figures-once n t f g p q =
     star-same n (f .stars) (g .stars) (p .star-list) (q .star-list) i k (o .stars i k)) in
     let z : f .heads ≡ g .heads = ext-getD (pos 0) (f .heads) (g .heads) (p .heads-long ∙ sym (q .heads-long))
     (λ i h. o .heads i (omega (arith, p .heads-long))) in
+    let c : f .ties ≡ g .ties = ext-getD 0 (f .ties) (g .ties) (p .ties-long ∙ sym (q .ties-long))
+    (λ i h. ties-once n (entry t n) (o .additions) (p .is-ties) (q .is-ties) i (omega (arith, p .ties-long))) in
     let v : f .sum ≡ g .sum = o .one-sum in
     let x : f .index ≡ g .index = index-once n (entry t n) (o .additions) (p .is-index) (q .is-index) in
-    ap (λ y. figures y (f .stars) (f .heads) (f .sum) (f .index)) a
-    ∙ ap (λ y. figures (g .adds) y (f .heads) (f .sum) (f .index)) s
-    ∙ ap (λ y. figures (g .adds) (g .stars) y (f .sum) (f .index)) z
-    ∙ ap (λ y. figures (g .adds) (g .stars) (g .heads) y (f .index)) v
-    ∙ ap (figures (g .adds) (g .stars) (g .heads) (g .sum)) x
+    ap (λ y. figures y (f .stars) (f .heads) (f .ties) (f .sum) (f .index)) a
+    ∙ ap (λ y. figures (g .adds) y (f .heads) (f .ties) (f .sum) (f .index)) s
+    ∙ ap (λ y. figures (g .adds) (g .stars) y (f .ties) (f .sum) (f .index)) z
+    ∙ ap (λ y. figures (g .adds) (g .stars) (g .heads) y (f .sum) (f .index)) c
+    ∙ ap (λ y. figures (g .adds) (g .stars) (g .heads) (g .ties) y (f .index)) v
+    ∙ ap (figures (g .adds) (g .stars) (g .heads) (g .ties) (g .sum)) x
 
 -- a table with figures has a complete transversal
 some-transversal : {X : Type 0} (n : ℕ) (t : List ℤ) (f : Figures) → FiguresOf n t f → NoTransversal n (entry t n) → X

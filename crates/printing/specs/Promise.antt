@@ -7,7 +7,7 @@ use lib.ListN.{length, take}
 use Rattle.theory.specs.Limits.{sheet-limit}
 use Rattle.theory.specs.Lists.{nums, ints, columns, StarList}
 use Rattle.theory.specs.Table.{entry}
-use Rattle.theory.specs.Canon.{NoTransversal, Solution, Index}
+use Rattle.theory.specs.Canon.{NoTransversal, Solution, Ties, Index}
 use Rattle.orders.specs.Refusals.{Said, gives, refuses, refusal}
 use Rattle.sheet.specs.Text.{over}
 use Rattle.sheet.specs.Sheet.{Labelled, IsSheet, TooLong}
@@ -29,7 +29,10 @@ pub record FiguresOf (n : ℕ) (t : List ℤ) (f : Figures) : Type 0 where
   pub adds-long : length (f .adds) ≡ n
   pub star-list : StarList n (f .stars)
   pub heads-long : length (f .heads) ≡ n
+  pub ties-long : length (f .ties) ≡ n
   pub solution : Solution n (entry t n) (λ i. 0) (nums (f .adds)) (columns (f .stars)) (ints (f .heads)) (f .sum)
+  -- document 02, request 1: "how many rows" hold each head under these additions, "one count a column"
+  pub is-ties : Ties n (entry t n) (nums (f .adds)) (nums (f .ties))
   pub is-index : Index n (entry t n) (nums (f .adds)) (f .index)
 
 -- what the answer of a table says: its figures, or that "no complete transversal exists"

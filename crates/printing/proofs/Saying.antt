@@ -1,4 +1,5 @@
--- What the answer of a table and of a sheet says, from the promises of the solver and of the reader. Assumes nothing.
+-- What the answer of a table and of a sheet says, from the promises of the solver, of the search for heads and of the reader. Assumes
+-- nothing.
 use mathlib.Core.Path.{_≡_, refl, sym, ap, subst, _∙_}
 use mathlib.Core.List.{List, [], _∷_, _++_}
 use mathlib.Core.Logic.{inl, inr}
@@ -6,19 +7,24 @@ use Prim.Native.Nat.{ℕ, _*_, _≤_}
 use native.Mathlib.Nat.{mul-le-mul}
 use native.Mathlib.Omega.{arith}
 use lib.IntN.{ℤ}
-use lib.ListN.{length, take, drop, length-append}
-use lib.Seq.{take-at}
+use lib.ListN.{length, take, drop, length-append, List·getD-append}
+use lib.Seq.{take-at, getD-take, length-take-le}
 use Rattle.theory.specs.Limits.{row-limit}
+use Rattle.theory.specs.Lists.{nums}
 use Rattle.theory.specs.Table.{entry}
-use Rattle.theory.specs.Canon.{NoTransversal}
+use Rattle.theory.specs.Canon.{NoTransversal, Ties}
+use Rattle.theory.proofs.Ties.{head-holders, holders-same}
 use Rattle.orders.specs.declared.Refusal.{Refusal}
+use Rattle.orders.specs.declared.Tops.{Tops}
+use Rattle.orders.specs.Places.{UnderCeiling, TopsOf}
 use Rattle.orders.specs.Refusals.{numberOf, valuesOf, First, Said, gives, refuses, refusal}
 use Rattle.orders.proofs.Refusals.{given-once, not-both, right-not-wrong}
 use Rattle.handed.specs.Conditions.{slices, table-tests}
 use Rattle.handed.specs.Handed.{Sound}
-use Rattle.handed.proofs.Basics.{entries-right}
+use Rattle.handed.proofs.Basics.{entries-right, sized}
 use Rattle.canon.specs.Answers.{said}
 use Rattle.canon.specs.Promises.{Solves, refused, answered}
+use Rattle.canon.proofs.Theorems.{found-within}
 use Rattle.canon.specs.declared.Answer.{Answer}
 use Rattle.canon.specs.declared.Answer.the-variants.{Sum, Refused}
 use Rattle.sheet.specs.Text.{over}
@@ -64,19 +70,38 @@ module _ {n : ℕ} {t : List ℤ} {a s a′ s′ : List ℕ} {z z′ : List ℤ}
           record { adds-long = ap length ea ∙ l .adds-long; stars-long = ap length es ∙ l .stars-long; heads-long = ap length ez ∙ l .heads-long }
       go (answered v c e la st lz w) = record { adds-long = la; stars-long = st .long; heads-long = lz }
 
-  -- The figures that the solver wrote, and the largest of the additions, are those of the table.
-  solved-says : (v : ℤ) (x : ℕ) → r ≡ Sum v → Largest a′ x → TableSays n t (gives (figures a′ s′ z′ v x))
-  solved-says v x q m = go p
+  -- The additions found are far under the ceiling, also in an array that holds them at its front: heads can be searched under them.
+  pub solved-low : (b : List ℕ) (v : ℤ) → r ≡ Sum v → UnderCeiling n (a′ ++ b)
+  solved-low b v q = go p
     where
-      go : Solves n t a s z r a′ s′ z′ → TableSays n t (gives (figures a′ s′ z′ v x))
+      go : Solves n t a s z r a′ s′ z′ → UnderCeiling n (a′ ++ b)
       go (refused k low e ea es ez) = not-both v k [] (sym (ap said q) ∙ e)
-      go (answered w c e la st lz f) =
-          solved (figures a′ s′ z′ v x)
+      go (answered w c e la st lz f) = λ i hi.
+          let found = found-within t a′ s′ z′ (sized (h .in-size) .1) (h .square .square) (h .entries) f in
+          rw (List·getD-append a′ b 0 i (omega arith)) (omega (arith, found .addition-most i hi))
+
+  -- The counts that this search gives are the ties under the additions.
+  counted-ties : (b : List ℕ) (tops : Tops) → TopsOf t n (a′ ++ b) tops → Ties n (entry t n) (nums a′) (nums (take n (tops .counts)))
+  counted-ties b tops o j hj =
+      rw (getD-take n (tops .counts) j 0 hj)
+      (holders-same n (entry t n) (λ i hi. List·getD-append a′ b 0 i (omega (arith, solved-sized .adds-long))) (head-holders n (entry t n) (o j hj)))
+
+  -- The figures that the solver wrote, the ties, and the largest of the additions, are those of the table.
+  solved-says : (c : List ℕ) (v : ℤ) (x : ℕ) → r ≡ Sum v → length c ≡ n → Ties n (entry t n) (nums a′) (nums c) → Largest a′ x
+      → TableSays n t (gives (figures a′ s′ z′ c v x))
+  solved-says c v x q lc o m = go p
+    where
+      go : Solves n t a s z r a′ s′ z′ → TableSays n t (gives (figures a′ s′ z′ c v x))
+      go (refused k low e ea es ez) = not-both v k [] (sym (ap said q) ∙ e)
+      go (answered w clear e la st lz f) =
+          solved (figures a′ s′ z′ c v x)
           (record {
             adds-long = la;
             star-list = st;
             heads-long = lz;
+            ties-long = lc;
             solution = rw (given-once w v (sym e ∙ ap said q)) at f;
+            is-ties = o;
             is-index =
                 record {
                   row = m .row;
@@ -87,12 +112,14 @@ module _ {n : ℕ} {t : List ℤ} {a s a′ s′ : List ℕ} {z z′ : List ℤ}
           }) refl
 
   -- they stand at the front of arrays
-  pub front-says : (b c : List ℕ) (d : List ℤ) (v : ℤ) (x : ℕ) → r ≡ Sum v → Largest (take n (a′ ++ b)) x
-      → TableSays n t (gives (figures (take n (a′ ++ b)) (take n (s′ ++ c)) (take n (z′ ++ d)) v x))
-  front-says b c d v x q m =
+  pub front-says : (b c : List ℕ) (d : List ℤ) (tops : Tops) (v : ℤ) (x : ℕ) → r ≡ Sum v → TopsOf t n (a′ ++ b) tops → n ≤ length (tops .counts)
+      → Largest (take n (a′ ++ b)) x
+      → TableSays n t (gives (figures (take n (a′ ++ b)) (take n (s′ ++ c)) (take n (z′ ++ d)) (take n (tops .counts)) v x))
+  front-says b c d tops v x q o inside m =
       let w = solved-sized in
       rw (take-at a′ b n (w .adds-long), take-at s′ c n (w .stars-long), take-at z′ d n (w .heads-long))
-      (solved-says v x q (rw (take-at a′ b n (w .adds-long)) at m))
+      (solved-says (take n (tops .counts)) v x q (length-take-le n (tops .counts) inside) (counted-ties b tops o)
+      (rw (take-at a′ b n (w .adds-long)) at m))
 
   -- A refusal of the solver is refusal 6, and no complete transversal exists.
   pub refused-says : (y : Refusal) → r ≡ Refused y → TableSays n t (refusal y)

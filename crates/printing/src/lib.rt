@@ -55,7 +55,8 @@ fn largest(adds: &[u32]) -> u32
     most
 }
 
-// The answer of a table. Rules out figures where no complete transversal exists, and a refusal where one does.
+// The answer of a table; the ties are counted under the additions found. Rules out figures where no complete transversal exists, and a
+// refusal where one does.
 fn put_table(n: usize, table: &[i16], page: &mut [u8]) -> usize
     requires { ⌜ (Sound n (now table) []) × (enough ≤ length (now page)) ⌝ }
     ensures { λ r. ⌜ Prints (TableSays n (now (table .entry))) (now (page .entry)) (now (page .exit)) r ⌝ }
@@ -66,8 +67,18 @@ fn put_table(n: usize, table: &[i16], page: &mut [u8]) -> usize
     let answer = solve(n, table, &mut adds[..n], &mut stars[..n], &mut heads[..n]);
     match answer {
         Answer::Sum(sum) => {
+            let tops = orders::heads(table, n, &adds);
+            let ties = tops.counts;
             let index = largest(&adds[..n]);
-            put_figures(&adds[..n], &stars[..n], &heads[..n], sum, index, page)
+            put_figures(
+                &adds[..n],
+                &stars[..n],
+                &heads[..n],
+                &ties[..n],
+                sum,
+                index,
+                page,
+            )
         }
         Answer::Refused(refusal) => put_refusal(refusal, page),
     }

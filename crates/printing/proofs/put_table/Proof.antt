@@ -1,4 +1,5 @@
--- The table is solved in arrays that are long enough, and the front of each is printed. Assumes nothing.
+-- The table is solved in arrays that are long enough, the ties are counted under the additions found, and the front of each is printed.
+-- Assumes nothing.
 use borrow.Author.Needs.{needs}
 use native.Mathlib.Omega.{arith}
 use Prim.Native.Nat.{ℕ, _≤_}
@@ -12,11 +13,13 @@ use mir.Syntax.{w32}
 use mir.Val.{SFits, ofZ, toZ}
 use Rattle.theory.specs.Limits.{row-limit}
 use Rattle.orders.specs.Refusals.{gives, refusal}
+use Rattle.orders.specs.declared.Tops.{Tops}
+use Rattle.orders.specs.Held.{Long}
 use Rattle.handed.proofs.Basics.{sized}
 use Rattle.page.specs.Printed.{figures}
 use Rattle.printing.specs.Promise.{TableSays}
 use Rattle.printing.proofs.Fits.{table-fits}
-use Rattle.printing.proofs.Saying.{Sized, solved-sized, front-says, refused-says, front-inside}
+use Rattle.printing.proofs.Saying.{Sized, solved-sized, solved-low, front-says, refused-says, front-inside}
 use Rattle.printing.proofs.put_table.Statement.{statement}
 use Rattle.printing.proofs.put_table.Tie as tie
 
@@ -76,18 +79,33 @@ stars-front c = sym (length-take-le (start c .args .n) (stars c) (stars-inside c
 heads-front : (c : tie.After-solve) → start c .args .n ≡ length (take (start c .args .n) (heads c))
 heads-front c = sym (length-take-le (start c .args .n) (heads c) (heads-inside c))
 
-abbrev sum : tie.After-largest → ℤ
-sum c = c .before .before .before .answer .given .0 .0
+-- what the search for heads told; each of its lists is as long as the largest table
+abbrev solving : tie.After-heads3 → tie.After-solve
+solving c = c .before .before .before .before .before .before .before .before
 
-found : (c : tie.After-largest) → let q = c .before .before .before .before .before .before .before .before in let n = start q .args .n in
+abbrev tops : tie.After-heads3 → Tops
+tops c = c .heads3 .result
+
+long : (c : tie.After-heads3) → Long (tops c .heads) × Long (tops c .rows) × Long (tops c .counts)
+long c = search needs
+
+-- that search, seen from where the index figure is known
+abbrev counting : tie.After-largest → tie.After-heads3
+counting c = c .before .before .before
+
+abbrev sum : tie.After-largest → ℤ
+sum c = counting c .before .before .before .answer .given .0 .0
+
+found : (c : tie.After-largest) → let d = counting c in let q = solving d in let n = start q .args .n in
     TableSays n (start q .args .table .now)
-    (gives (figures (take n (adds q)) (take n (stars q)) (take n (heads q)) (toZ w32 (ofZ w32 (sum c))) (c .largest .result)))
+    (gives (figures (take n (adds q)) (take n (stars q)) (take n (heads q)) (take n (tops d .counts)) (toZ w32 (ofZ w32 (sum c))) (c .largest .result)))
 found c =
-    let q = c .before .before .before .before .before .before .before .before in
+    let d = counting c in
+    let q = solving d in
     let f : SFits w32 (sum c) = search needs in
     rw (toZ-ofZ f)
-    (front-says (start q .pre .0) (lent (start q)) (q .solve .ensures) _ _ _ _ _ (c .before .before .before .answer .given .1)
-    (c .largest .ensures))
+    (front-says (start q .pre .0) (lent (start q)) (q .solve .ensures) _ _ _ (tops d) _ _ (d .before .before .before .answer .given .1)
+    (d .heads3 .ensures) (omega (arith, few (start q), long d .2)) (c .largest .ensures))
 
 -- or there are none
 none : (c : tie.After-answer2) → let s = start (c .before .before .before .before .before) in
@@ -120,39 +138,53 @@ solve-requires c κs = search needs
 enum-known-answer : tie.Need-enum-known-answer
 enum-known-answer c = search needs
 
+heads-requires : tie.Need-heads-requires
+heads-requires c κs =
+    let q = c .before .before .before .before .before .before .before in
+    (start q .pre .0 .square, solved-low (start q .pre .0) (lent (start q)) (q .solve .ensures) _ _ (c .before .before .answer .given .1))
+
 array-share-prefix-adds : tie.Need-array-share-prefix-adds
-array-share-prefix-adds c = adds-inside (c .before .before .before .before .before .before)
+array-share-prefix-adds c = adds-inside (c .before .before .before .before .before .before .before .before .before)
 
 slice-aggregate-largest : tie.Need-slice-aggregate-largest
-slice-aggregate-largest c = adds-front (c .before .before .before .before .before .before .before)
+slice-aggregate-largest c = adds-front (c .before .before .before .before .before .before .before .before .before .before)
 
 largest-requires : tie.Need-largest-requires
 largest-requires c κs =
-    let q = c .before .before .before .before .before .before .before in
+    let q = c .before .before .before .before .before .before .before .before .before .before in
     omega (arith, adds-front q, sized (start q .pre .0 .in-size) .0)
 
 array-share-prefix-adds-2 : tie.Need-array-share-prefix-adds-2
-array-share-prefix-adds-2 c = adds-inside (c .before .before .before .before .before .before .before .before)
+array-share-prefix-adds-2 c = adds-inside (solving (counting c))
 
 slice-aggregate-put-figures : tie.Need-slice-aggregate-put-figures
-slice-aggregate-put-figures c = adds-front (c .before .before .before .before .before .before .before .before .before)
+slice-aggregate-put-figures c = adds-front (solving (counting (c .before)))
 
 array-share-prefix-stars : tie.Need-array-share-prefix-stars
-array-share-prefix-stars c = stars-inside (c .before .before .before .before .before .before .before .before .before)
+array-share-prefix-stars c = stars-inside (solving (counting (c .before)))
 
 slice-aggregate-put-figures-2 : tie.Need-slice-aggregate-put-figures-2
-slice-aggregate-put-figures-2 c = stars-front (c .before .before .before .before .before .before .before .before .before .before)
+slice-aggregate-put-figures-2 c = stars-front (solving (counting (c .before .before)))
 
 array-share-prefix-heads : tie.Need-array-share-prefix-heads
-array-share-prefix-heads c = heads-inside (c .before .before .before .before .before .before .before .before .before .before)
+array-share-prefix-heads c = heads-inside (solving (counting (c .before .before)))
 
 slice-aggregate-put-figures-3 : tie.Need-slice-aggregate-put-figures-3
-slice-aggregate-put-figures-3 c = heads-front (c .before .before .before .before .before .before .before .before .before .before .before)
+slice-aggregate-put-figures-3 c = heads-front (solving (counting (c .before .before .before)))
+
+array-share-prefix-ties : tie.Need-array-share-prefix-ties
+array-share-prefix-ties c = let d = counting (c .before .before .before) in omega (arith, few (start (solving d)), long d .1, long d .2)
+
+slice-aggregate-put-figures-4 : tie.Need-slice-aggregate-put-figures-4
+slice-aggregate-put-figures-4 c =
+    let d = counting (c .before .before .before .before) in
+    sym (length-take-le (start (solving d) .args .n) _ (omega (arith, few (start (solving d)), long d .1, long d .2)))
 
 put-figures-requires : tie.Need-put-figures-requires
 put-figures-requires c κs =
-    let s = c .before .before .before .before .before .before .before .before .before .before .before .before .before .before .before .before .before in
-    omega (arith, table-fits (s .args .n) (s .args .table .now) _ (s .pre .0) (found (c .before .before .before .before)), s .pre .1)
+    let d = c .before .before .before .before .before in
+    let s = start (solving (counting d)) in
+    omega (arith, table-fits (s .args .n) (s .args .table .now) _ (s .pre .0) (found d), s .pre .1)
 
 enum-known-answer-2 : tie.Need-enum-known-answer-2
 enum-known-answer-2 c = search needs
@@ -166,7 +198,8 @@ same-length : tie.Need-same-length
 same-length c = search needs
 
 returns : tie.Need-returns
-returns c = record { said = _; holds = found (c .before .before .before .before .before .before .before); puts = c .before .before .put-figures .ensures }
+returns c =
+    record { said = _; holds = found (c .before .before .before .before .before .before .before .before); puts = c .before .before .put-figures .ensures }
 
 same-length-2 : tie.Need-same-length-2
 same-length-2 c = search needs
@@ -186,6 +219,7 @@ put-table-spec =
     slice-aggregate-solve-3
     solve-requires
     enum-known-answer
+    heads-requires
     array-share-prefix-adds
     slice-aggregate-largest
     largest-requires
@@ -195,6 +229,8 @@ put-table-spec =
     slice-aggregate-put-figures-2
     array-share-prefix-heads
     slice-aggregate-put-figures-3
+    array-share-prefix-ties
+    slice-aggregate-put-figures-4
     put-figures-requires
     enum-known-answer-2
     put-refusal-requires

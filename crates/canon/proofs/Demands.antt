@@ -15,7 +15,8 @@ use Rattle.orders.proofs.Refusals.{first-among, first-lowest, not-both}
 use Rattle.handed.specs.Conditions.{table-more, canon-more, star-more}
 use Rattle.handed.proofs.Basics.{additions-right, stars-right, table-rises, canon-rises, heads-rises, star-rises}
 use Rattle.canon.specs.Answers.{said}
-use Rattle.canon.specs.Demands.{Buffers, lengths, HeadBuffers, heads-tests-of, WellFormed, Route, tests, verdict-tests, numbers-of}
+use Rattle.canon.specs.Promises.{head-lengths}
+use Rattle.canon.specs.Demands.{Buffers, lengths, heads-tests-of, WellFormed, Route, tests, verdict-tests, numbers-of}
 use Rattle.canon.specs.Demands.{Demand1, Answered, Demand2, Demand3, Numbered, Limited}
 use Rattle.canon.specs.declared.Answer.{Answer}
 use Rattle.canon.proofs.Refusing.{past-first}
@@ -26,9 +27,6 @@ use Rattle.canon.proofs.Theorems.{judged-refused, judged-due, judged-ye
 use Rattle.canon.proofs.Ties.{same-head-buffers, heads-refused, heads-due}
 
 module _ (n : ℕ) (t : List ℤ) where
-  head-lengths : List ℕ → HeadBuffers → List ℕ
-  head-lengths given b = length given ∷ length (b .heads) ∷ length (b .rows) ∷ length (b .counts) ∷ []
-
   -- the numbers of each route's tests rise
   rises : (start : Handed) (b : Buffers) → Rising (numbers (tests n t start b))
   rises nothing b = table-rises n t (lengths b)
@@ -63,7 +61,7 @@ module _ (n : ℕ) (t : List ℤ) where
             };
         routes-lowest = λ start b j k. first-lowest (tests n t start b) j k (rises start b);
         verdict-lowest = λ given j k. first-lowest (verdict-tests n t given) j k (canon-rises n t given (length given ∷ []));
-        heads-lowest = λ given b j k. first-lowest (heads-tests-of n t given b) j k (heads-rises n t given (head-lengths given b));
+        heads-lowest = λ given b j k. first-lowest (heads-tests-of n t given b) j k (heads-rises n t given (head-lengths given (b .heads) (b .rows) (b .counts)));
       }
 
   -- what a route that answers wrote, and that what was handed to it leads

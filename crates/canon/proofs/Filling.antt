@@ -23,7 +23,7 @@ use Rattle.handed.specs.declared.FirstTests.{FirstTests}
 use Rattle.handed.specs.declared.FirstTests.the-variants as tests
 use Rattle.handed.proofs.Basics.{additions-right}
 use Rattle.outcome.proofs.Delivery.{cut}
-use Rattle.canon.specs.Promises.{ColumnHeads, leaves, fills}
+use Rattle.canon.specs.Promises.{head-lengths, ColumnHeads, leaves, fills}
 use Rattle.canon.specs.declared.Filled.the-variants.{Done, Refused}
 use Rattle.canon.proofs.Refusing.{first-of-all, past-first, past-clear}
 
@@ -33,18 +33,14 @@ pub held-under : (n : ℕ) (given l : List ℕ) {b : Bool} → length given ≡ 
 held-under n given l long a low kept i hi = let h : i < length given = omega (arith, long) in omega (arith, kept i h, a .within low i h)
 
 module _ (n : ℕ) (t : List ℤ) (given : List ℕ) (heads : List ℤ) (rows counts : List ℕ) where
-  -- the lengths that are to be n
-  abbrev pub Lengths : List ℕ
-  Lengths = length given ∷ length heads ∷ length rows ∷ length counts ∷ []
-
   -- a call that refuses by one of the first three tests
-  pub leave-first : {r : FirstTests} → Basic n t Lengths r → (q : Refusal) → r ≡ tests.Refused q
+  pub leave-first : {r : FirstTests} → Basic n t (head-lengths given heads rows counts) r → (q : Refusal) → r ≡ tests.Refused q
       → ColumnHeads n t given heads rows counts (Refused q) heads rows counts
   leave-first b q e =
       let p = b .refused q e in
-      leaves (numberOf q) (first-of-all n t Lengths (heads-more given) (numberOf q) (p .0)) (ap (refuses (numberOf q)) (p .1)) refl refl refl
+      leaves (numberOf q) (first-of-all n t (head-lengths given heads rows counts) (heads-more given) (numberOf q) (p .0)) (ap (refuses (numberOf q)) (p .1)) refl refl refl
 
-  module _ (s : Sound n t Lengths) {b : Bool} (a : WithinAs given b) where
+  module _ (s : Sound n t (head-lengths given heads rows counts)) {b : Bool} (a : WithinAs given b) where
     -- and by the fourth
     pub leave-addition : b ≡ false → ColumnHeads n t given heads rows counts (Refused Addition) heads rows counts
     leave-addition e = leaves 4 (past-first s (heads-more given) 4 (inl (a .above e, refl))) refl refl refl refl

@@ -102,7 +102,7 @@ placed-greatest n t s list f =
 
 module _ (n : ℕ) (t : List ℤ) where
   -- the first three tests, of slices with the lengths ks
-  sound-clear : (ks : List ℕ) (more : List Test) → Clear (basic n t ks more) → Sound n t ks
+  pub sound-clear : (ks : List ℕ) (more : List Test) → Clear (basic n t ks more) → Sound n t ks
   sound-clear ks more clear =
       let right = right-lengths (slices n t ks) (clear .1 .0) in
       record {

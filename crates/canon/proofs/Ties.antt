@@ -2,28 +2,41 @@
 use mathlib.Core.Path.{_≡_, refl, sym, _∙_, ap}
 use mathlib.Core.List.{List, []}
 use Prim.Native.Nat.{ℕ, _<_}
+use native.Mathlib.Omega.{arith}
 use lib.IntN.{ℤ, pos}
 use lib.ListN.{length}
+use Rattle.theory.specs.Limits.{order-limit, addition-limit}
 use Rattle.theory.specs.Lists.{nums, ints}
 use Rattle.theory.specs.Table.{entry}
 use Rattle.theory.specs.Cases.{Handed}
-use Rattle.theory.specs.Canon.{ColumnHead}
+use Rattle.theory.specs.Canon.{AtMost, ColumnHead}
 use Rattle.theory.proofs.Duality.{head-once}
-use Rattle.theory.proofs.Ties.{head-lowest, head-holders, head-empty, none-holds, canon-holders, column-head}
+use Rattle.theory.proofs.Ties.{head-lowest, head-holders, head-empty, none-holds, canon-holders, column-head, column-head-within}
 use Rattle.orders.specs.Refusals.{Said, First, gives, refuses}
 use Rattle.orders.proofs.Refusals.{first-once, first-clear, not-both}
+use Rattle.orders.proofs.Places.{within}
+use Rattle.handed.specs.Conditions.{heads-more}
+use Rattle.handed.specs.Handed.{Sound}
+use Rattle.handed.proofs.Basics.{additions-known}
 use Rattle.canon.specs.Answers.{said, told}
-use Rattle.canon.specs.Promises.{leaves, fills}
-use Rattle.canon.specs.Demands.{Buffers, HeadBuffers, headBuffers, FillsHeads, heads-tests-of, Route, Ties1, Request1}
+use Rattle.canon.specs.Promises.{head-lengths, leaves, fills}
+use Rattle.canon.specs.Demands.{Buffers, HeadBuffers, headBuffers, FillsHeads, heads-tests-of, Route, TiesTold, Request1}
 use Rattle.canon.specs.declared.Answer.{Answer}
 use Rattle.canon.specs.declared.Filled.{Filled}
 use Rattle.canon.proofs.Unique.{same-list}
-use Rattle.canon.proofs.Theorems.{routes, routed-result}
+use Rattle.canon.proofs.Theorems.{sound-clear, routes, routed-result}
 
 -- ---- refusals
 pub same-head-buffers : (b c : HeadBuffers) → b .heads ≡ c .heads → b .rows ≡ c .rows → b .counts ≡ c .counts → b ≡ c
 same-head-buffers b c x y z =
     ap (λ v. headBuffers v (b .rows) (b .counts)) x ∙ ap (λ v. headBuffers (c .heads) v (b .counts)) y ∙ ap (λ v. headBuffers (c .heads) (c .rows) v) z
+
+-- what a call that refuses nothing was handed, and what it wrote
+pub record Told (n : ℕ) (t : List ℤ) (given : List ℕ) (b b′ : HeadBuffers) : Type 0 where
+  pub sound : Sound n t (head-lengths given (b .heads) (b .rows) (b .counts))
+  pub low : AtMost n (nums given) (λ i. addition-limit)
+  pub heads-long : length (b′ .heads) ≡ n
+  pub tops : (j : ℕ) → j < n → ColumnHead n (entry t n) (nums given) j (ints (b′ .heads) j) (nums (b′ .rows) j) (nums (b′ .counts) j)
 
 module _ {n : ℕ} {t : List ℤ} {given : List ℕ} {r : Filled} (b b′ : HeadBuffers) where
   pub heads-refused : FillsHeads n t given b r b′ → (k : ℕ) → First (heads-tests-of n t given b) k → (told r ≡ refuses k []) × (b′ ≡ b)
@@ -39,10 +52,16 @@ module _ {n : ℕ} {t : List ℤ} {given : List ℕ} {r : Filled} (b b′ : Head
       (rw same at q, none)
   heads-due (fills clear says lh lr lc f) k vs e = not-both tt k vs (sym says ∙ e)
 
-  pub heads-told : FillsHeads n t given b r b′ → told r ≡ gives tt
-      → (length (b′ .heads) ≡ n) × ((j : ℕ) → j < n → ColumnHead n (entry t n) (nums given) j (ints (b′ .heads) j) (nums (b′ .rows) j) (nums (b′ .counts) j))
+  pub heads-told : FillsHeads n t given b r b′ → told r ≡ gives tt → Told n t given b b′
   heads-told (leaves k q says x y z) e = not-both tt k [] (sym e ∙ says)
-  heads-told (fills clear says lh lr lc f) e = (lh, f)
+  heads-told (fills clear says lh lr lc f) e =
+      let s = sound-clear n t (head-lengths given (b .heads) (b .rows) (b .counts)) (heads-more given) clear in
+      record {
+        sound = s;
+        low = λ i hi. additions-known given (clear .1 .1 .1 .0) i (omega (arith, s .fitting .0));
+        heads-long = lh;
+        tops = f;
+      }
 
 -- ---- request 1
 module _ (n : ℕ) (t : List ℤ) where
@@ -50,18 +69,21 @@ module _ (n : ℕ) (t : List ℤ) where
   request-1 =
       record {
         tells = λ given b b′ r p e.
-            let f = heads-told b b′ p e .1 in
+            let w = heads-told b b′ p e in
+            let f = w .tops in
             record {
               lowest = λ j hj some. head-lowest n (entry t n) (f j hj) some;
               counts-are = λ j hj. head-holders n (entry t n) (f j hj);
               empty-zero = λ j hj none. head-empty n (entry t n) (f j hj) none;
               zero-empty = λ j hj z. none-holds n (entry t n) (rw z at (head-holders n (entry t n) (f j hj)));
+              within = λ j hj.
+                  column-head-within n (entry t n) (within order-limit n t (w .sound .square .square) (w .sound .entries)) (w .low) hj (f j hj);
               canon-counts = λ c j hj. canon-holders n (entry t n) c hj (head-holders n (entry t n) (f j hj));
             };
         route-heads = λ start c c′ q s b b′ r p e u g.
             let w = routed-result c c′ (routes n t start c c′ q p) s e .1 in
-            let (long, f) = heads-told b b′ u g in
-            same-list (pos 0) (b′ .heads) (c′ .heads) long (w .heads-long) (λ j hj.
+            let v = heads-told b b′ u g in
+            same-list (pos 0) (b′ .heads) (c′ .heads) (v .heads-long) (w .heads-long) (λ j hj.
             let h = w .solution .heads j hj in
-            head-once n (entry t n) (column-head n (entry t n) (f j hj) (h .inside) (h .maximum .present)) h);
+            head-once n (entry t n) (column-head n (entry t n) (v .tops j hj) (h .inside) (h .maximum .present)) h);
       }

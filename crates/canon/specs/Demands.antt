@@ -6,7 +6,8 @@ use mathlib.Core.Logic.{_≢_}
 use mathlib.Core.Bool.{true, false}
 use mathlib.Core.List.{List, [], _∷_}
 use Prim.Native.Nat.{ℕ, _+_, _*_, _≤_, _<_}
-use lib.IntN.{ℤ, pos}
+use lib.IntN.{ℤ, pos, negℤ}
+use lib.Signed.{_≤ℤ_}
 use lib.ListN.{length}
 use Rattle.theory.specs.Limits.{row-limit, order-limit, addition-limit, FoundWithin}
 use Rattle.theory.specs.Lists.{nums, ints, columns, StarList}
@@ -185,7 +186,7 @@ pub record Limited (n : ℕ) (t : List ℤ) : Type 0 where
       → FoundWithin n (nums (b′ .adds)) (ints (b′ .heads)) s
 
 -- ---- document 02, request 1: what `column_heads` tells, where it refuses nothing
-pub record Ties1 (n : ℕ) (t : List ℤ) (given : List ℕ) (b : HeadBuffers) : Type 0 where
+pub record TiesTold (n : ℕ) (t : List ℤ) (given : List ℕ) (b : HeadBuffers) : Type 0 where
   -- "the lowest row that holds it", in every column with a present order,
   pub lowest : (j : ℕ) → j < n → (EmptyColumn n (entry t n) j → ⊥)
       → (i : ℕ) × LowestHolder n (entry t n) (nums given) j i × (nums (b .rows) j ≡ i + 1) × (ints (b .heads) j ≡ raised n (entry t n) (nums given) i j)
@@ -194,11 +195,13 @@ pub record Ties1 (n : ℕ) (t : List ℤ) (given : List ℕ) (b : HeadBuffers) :
   -- "In a column with no present order head, count and row are 0", and a count is 0 in no other
   pub empty-zero : (j : ℕ) → j < n → EmptyColumn n (entry t n) j → (ints (b .heads) j ≡ pos 0) × (nums (b .rows) j ≡ 0) × (nums (b .counts) j ≡ 0)
   pub zero-empty : (j : ℕ) → j < n → nums (b .counts) j ≡ 0 → EmptyColumn n (entry t n) j
+  -- the heads are at least −100 and at most 10,100
+  pub within : (j : ℕ) → j < n → (negℤ (pos order-limit) ≤ℤ ints (b .heads) j) × (ints (b .heads) j ≤ℤ pos (addition-limit + order-limit))
   -- under a canon some row holds each column's head
   pub canon-counts : Canon n (entry t n) (nums given) → (j : ℕ) → j < n → 1 ≤ nums (b .counts) j
 
 pub record Request1 (n : ℕ) (t : List ℤ) : Type 0 where
-  pub tells : (given : List ℕ) (b b′ : HeadBuffers) (r : Filled) → FillsHeads n t given b r b′ → told r ≡ gives tt → Ties1 n t given b′
+  pub tells : (given : List ℕ) (b b′ : HeadBuffers) (r : Filled) → FillsHeads n t given b r b′ → told r ≡ gives tt → TiesTold n t given b′
   -- of the additions that a route answers it tells the heads that the route wrote
   pub route-heads : (start : Handed) (c c′ : Buffers) (q : Answer) (s : ℤ) (b b′ : HeadBuffers) (r : Filled) → Route n t start c q c′ → said q ≡ gives s
       → FillsHeads n t (c′ .adds) b r b′ → told r ≡ gives tt → b′ .heads ≡ c′ .heads

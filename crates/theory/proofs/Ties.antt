@@ -4,12 +4,12 @@ use mathlib.Core.Logic.{_≢_}
 use Prim.Native.Nat.{ℕ, zero, suc, _+_, _≤_, _<_}
 use native.Mathlib.Decide.{ℕ-discrete, decLt}
 use native.Mathlib.Omega.{arith}
-use lib.IntN.{ℤ, pos, _+ℤ_}
+use lib.IntN.{ℤ, pos, negℤ, _+ℤ_}
 use lib.Signed.{_≤ℤ_, _<ℤ_, ≤ℤ-refl}
-use Rattle.theory.specs.Table.{Present}
+use Rattle.theory.specs.Table.{Present, WithinLimit}
 use Rattle.theory.specs.Totals.{Count, none, one-more, passed-over}
-use Rattle.theory.specs.Canon.{NoTransversal, raised, Maximum, Canon, Head, LowestHolder, Holders, EmptyColumn, ColumnHead, held, empty, Ties}
-use Rattle.theory.proofs.Signed.{signed}
+use Rattle.theory.specs.Canon.{AtMost, NoTransversal, raised, Maximum, Canon, Head, LowestHolder, Holders, EmptyColumn, ColumnHead, held, empty, Ties}
+use Rattle.theory.proofs.Signed.{signed, plus, below-zero}
 use Rattle.theory.proofs.Counts.{count-once, count-same, count-none, count-some}
 use Rattle.theory.proofs.Pigeonhole.{onto}
 use Rattle.theory.proofs.Decisions.{present-known, less-known, not-less}
@@ -228,6 +228,17 @@ module _ (n : ℕ) (a : ℕ → ℕ → ℤ) where
       })
       (is ∙ ap (λ (x : ℕ). a i j +ℤ pos x) (e i (o .inside))) r (holders-same e s)
   column-head-same e (empty f is r z) = empty f is r z
+
+  -- orders within a limit, raised by at most B, have heads within both together
+  pub column-head-within : {limit B : ℕ} {l : ℕ → ℕ} {j : ℕ} {h : ℤ} {row c : ℕ} → WithinLimit limit n a → AtMost n l (λ i. B) → j < n
+      → ColumnHead n a l j h row c → (negℤ (pos limit) ≤ℤ h) × (h ≤ℤ pos (B + limit))
+  column-head-within {limit} {B} {l} {j} w low hj (held i o e r s) =
+      let u = w i j (o .inside) hj (o .maximum .present) in
+      let p = plus (a i j) (pos (l i)) in (
+        omega (arith, signed, e, p, u .low, below-zero limit),
+        omega (arith, signed, e, p, u .high, low i (o .inside)),
+      )
+  column-head-within {limit} w low hj (empty f e r z) = (omega (arith, signed, e, below-zero limit), omega (arith, signed, e))
 
   pub ties-once : {l m c d : ℕ → ℕ} → Same n a l m → Ties n a l c → Ties n a m d → Same n a c d
   ties-once e s t j hj = count-once (holders-same e (s j hj)) (t j hj)

@@ -5,7 +5,8 @@ use borrow.Author.Tests.{not-true, not-false}
 use denote.Ref.{now}
 use Rattle.orders.specs.Held.{Long}
 use Rattle.handed.specs.Handed.{Sound}
-use Rattle.canon.proofs.Filling.{Lengths, leave-first, leave-addition, held-under, filled}
+use Rattle.canon.specs.Promises.{head-lengths}
+use Rattle.canon.proofs.Filling.{leave-first, leave-addition, held-under, filled}
 use Rattle.canon.proofs.column_heads.Statement.{statement}
 use Rattle.canon.proofs.column_heads.Tie as tie
 
@@ -25,7 +26,7 @@ enum-told c = search needs
 abbrev Passed : tie.After-enum-told → Type 0
 Passed c =
     let a = c .before .before .before .before .before .before .args in
-    Sound (a .n) (now (a .table)) (Lengths (a .n) (now (a .table)) (now (a .given)) (now (a .heads)) (now (a .rows)) (now (a .counts)))
+    Sound (a .n) (now (a .table)) (head-lengths (now (a .given)) (now (a .heads)) (now (a .rows)) (now (a .counts)))
 
 passed : (c : tie.After-enum-told) → Passed c
 passed c = c .before .before .tested .ensures .passed (c .enum-told .given .1)

@@ -10,8 +10,9 @@
  *
  * THE ANSWER. The additions (one for each row, zero or more) are the simplest canon: no canon has a smaller addition in
  * any row. The stars (one column for each row, from 1) are the first complete transversal of column maxima. The heads
- * (one for each column) are the largest raised orders. The sum is the total of the starred orders as they stand in the
- * table: the count of starting values. The index figure is the largest addition.
+ * (one for each column) are the largest raised orders. The ties (one for each column) say how many rows hold the head.
+ * The sum is the total of the starred orders as they stand in the table: the count of starting values. The index figure
+ * is the largest addition.
  *
  * SLICES AND SINGLE RESULTS. Each slice is two arguments: a pointer, then the number of its elements (not of its bytes).
  * A single result is a pointer alone. A pointer is never NULL and is aligned for its type, also where the number is 0.
@@ -113,6 +114,17 @@ uint32_t canon_is_simplest(size_t n,
                            const uint32_t *given, size_t given_len,
                            uint8_t *yes);
 
+/* Which rows share a maximum: for each column, under any n additions given (zeros: the table as it stands), its head, the
+ * lowest row (from 1) that holds it, and how many rows do; 0, 0 and 0 in a column with no present order. table has n * n
+ * elements; given, heads, rows and counts n each. Whether a complete transversal exists is not asked. Heads are -100 to
+ * 10,100 here. Returns 0, 1, 2, 3 or 4; on a refusal heads, rows and counts hold what they held. */
+uint32_t canon_column_heads(size_t n,
+                            const int16_t *table, size_t table_len,
+                            const uint32_t *given, size_t given_len,
+                            int32_t *heads, size_t heads_len,
+                            uint32_t *rows, size_t rows_len,
+                            uint32_t *counts, size_t counts_len);
+
 /* Reads a sheet. table has CANON_PLACES elements, rows and cols have CANON_LABELS bytes each. Writes N to n, the first
  * N * N entries of table, and the first 8 * N bytes of rows and cols: a label is 8 bytes, filled up with zero bytes.
  * Later entries and bytes stay. Returns 0, 2, 9 or 10; with 10, and only then, the number of the first wrong line
@@ -134,7 +146,7 @@ uint32_t canon_write_sheet(size_t n,
                            uint8_t *out, size_t out_len,
                            size_t *length);
 
-/* The program's whole answer to a sheet: the sections adds, stars, heads, sum and index, or one line such as
+/* The program's whole answer to a sheet: the sections adds, stars, heads, ties, sum and index, or one line such as
  * `refused 6` or `refused 10 7`. Writes the text to the front of out and its length to length; the bytes of out after
  * the text stay. A refusal of the sheet or of the table is such a text, and the call returns 0; it returns 12 when the
  * text does not fit out. CANON_PRINTED bytes are always room enough. */

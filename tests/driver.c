@@ -12,6 +12,7 @@
 
 #include <unistd.h>
 
+#define CALLS 8
 #define PARTS 6
 #define GUARD 64
 #define ROOM 262144
@@ -27,7 +28,7 @@ struct part {
 };
 
 /* The sizes of the elements of each call's parts; 0 ends them. */
-static const uint8_t sizes[8][PARTS + 1] = {
+static const uint8_t sizes[CALLS + 1][PARTS + 1] = {
     {0},
     {2, 4, 4, 4, 4, 0},
     {2, 4, 4, 4, 4, 4, 0},
@@ -36,6 +37,7 @@ static const uint8_t sizes[8][PARTS + 1] = {
     {1, 2, 1, 1, 8, 8, 0},
     {2, 1, 1, 1, 8, 0},
     {1, 1, 8, 0},
+    {2, 4, 4, 4, 4, 0},
 };
 
 static void flush(void) {
@@ -138,6 +140,9 @@ static uint32_t call(uint8_t number, size_t n, struct part *p) {
                                  SINGLE(size_t, 4));
     case 7:
         return canon_print(SLICE(uint8_t, 0), SLICE(uint8_t, 1), SINGLE(size_t, 2));
+    case 8:
+        return canon_column_heads(n, SLICE(int16_t, 0), SLICE(uint32_t, 1), SLICE(int32_t, 2), SLICE(uint32_t, 3),
+                                  SLICE(uint32_t, 4));
     default:
         _exit(6);
     }
@@ -148,7 +153,7 @@ int main(void) {
     while (get(&number, 1)) {
         uint64_t n;
         struct part parts[PARTS];
-        if (number == 0 || number > 7 || !get(&n, 8)) _exit(4);
+        if (number == 0 || number > CALLS || !get(&n, 8)) _exit(4);
         int count = lay_out(sizes[number], parts);
         uint32_t status = call(number, (size_t)n, parts);
         uint8_t guarded = all_stand(parts, count);

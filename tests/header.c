@@ -56,6 +56,12 @@ static uint32_t from_stars(uint32_t first, uint32_t second) {
     return canon_from_stars(2, table, 4, given, 2, adds, 2, stars, 2, heads, 2, &sum);
 }
 
+static uint32_t column_heads(uint32_t first, uint32_t second) {
+    given[0] = first;
+    given[1] = second;
+    return canon_column_heads(2, table, 4, given, 2, heads, 2, adds, 2, stars, 2);
+}
+
 static uint32_t read_small(size_t places, size_t labels) {
     return canon_read_sheet(SMALL, read_table, places, rows, labels, cols, labels, &n_read, &line);
 }
@@ -74,8 +80,11 @@ static void check_tables(void) {
     expect("a list too short", canon_solve(1, table, 1, adds, 0, stars, 1, heads, 1, &sum), CANON_LENGTH);
     set_table(0, 0, 101, 0);
     expect("an entry of 101", solve(2), CANON_ENTRY);
+    expect("the same for the heads of columns", column_heads(0, 0), CANON_ENTRY);
     set_table(CANON_ABSENT, CANON_ABSENT, 0, 0);
     expect("a row with all absent", solve(2), CANON_NO_TRANSVERSAL);
+    expect("the same for the heads of columns", column_heads(10000, 10000), 0);
+    expect("with an addition of 10,001", column_heads(0, 10001), CANON_ADDITION);
     set_table(5, 0, 0, 5);
     expect("an addition of 10,001", from_canon(10001, 0), CANON_ADDITION);
     expect("additions 9 0 to 5 0 / 0 5", from_canon(9, 0), CANON_NO_CANON);

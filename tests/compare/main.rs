@@ -1,13 +1,14 @@
 //! Compares the C interface with an independent second program that tries every transversal.
 //!
 //! compare SEED COUNT VECTORS EXAMPLES DRIVER..: COUNT random tables of up to 7 rows, COUNT / 20 tables of 8 to 32 rows
-//! checked by certificate, COUNT random and mutated sheets, the stored vectors in the file VECTORS, and the sheets in the
-//! folder EXAMPLES with the answers beside them. DRIVER.. is the command that runs driver.c. Ends with status 1 on any
-//! difference, and also if some refusal that a call can give was never given.
+//! checked by certificate, as many again with ties and empty columns for the heads of columns, COUNT random and mutated sheets,
+//! the stored vectors in the file VECTORS, and the sheets in the folder EXAMPLES with the answers beside them. DRIVER.. is the
+//! command that runs driver.c. Ends with status 1 on any difference, and also if some refusal that a call can give was never given.
 
 mod brute;
 mod certificate;
 mod chance;
+mod heads;
 mod oracle;
 mod sheets;
 mod table;
@@ -48,7 +49,7 @@ impl Tally {
 
     /// Every refusal that document 01 lets a call give must have been given.
     fn missing(&self) -> Vec<String> {
-        let possible: [(Call, &[u32]); 7] = [
+        let possible: [(Call, &[u32]); 8] = [
             (Call::Solve, &[0, 1, 2, 3, 6]),
             (Call::FromCanon, &[0, 1, 2, 3, 4, 6, 7]),
             (Call::FromStars, &[0, 1, 2, 3, 5, 6, 8]),
@@ -56,6 +57,7 @@ impl Tally {
             (Call::ReadSheet, &[0, 2, 9, 10]),
             (Call::WriteSheet, &[0, 1, 2, 3, 11, 12]),
             (Call::Print, &[0, 12]),
+            (Call::ColumnHeads, &[0, 1, 2, 3, 4]),
         ];
         let pairs = possible.iter().flat_map(|(call, numbers)| numbers.iter().map(move |number| (*call, *number)));
         pairs
@@ -137,6 +139,18 @@ fn large_tables(driver: &mut Driver, chance: &mut Chance, tally: &mut Tally, cou
     }
 }
 
+/// Heads of columns by plain search: COUNT tables of 1 to 7 rows, each size in turn, and COUNT / 20 of 8 to 32 rows.
+fn tied_tables(driver: &mut Driver, chance: &mut Chance, tally: &mut Tally, count: usize) {
+    let mut sizes: Vec<usize> = (0..count).map(|k| k % 7 + 1).collect();
+    sizes.extend((0..count / 20).map(|k| k % 25 + 8));
+    for batch in sizes.chunks(250) {
+        let requests: Vec<Request> = batch.iter().map(|&n| heads::random_request(chance, n)).collect();
+        let expected: Vec<Answer> = requests.iter().map(oracle::expected_heads).collect();
+        let answers = driver.ask(&requests);
+        tally.compare(&requests, &expected, &answers);
+    }
+}
+
 fn random_sheets(driver: &mut Driver, chance: &mut Chance, tally: &mut Tally, count: usize) {
     let mut left = count;
     while left > 0 {
@@ -151,7 +165,8 @@ fn random_sheets(driver: &mut Driver, chance: &mut Chance, tally: &mut Tally, co
             requests.push(sheets::read_request(chance, &changed));
             requests.push(sheets::write_request(chance, &labelled));
             if n < 7 {
-                requests.push(sheets::print_request(chance, &changed));
+                let length = sheets::printed(&changed).len();
+                requests.push(sheets::print_request(chance, &changed, length));
             }
         }
         let expected: Vec<Answer> = requests
@@ -175,7 +190,7 @@ fn example_sheets(driver: &mut Driver, chance: &mut Chance, tally: &mut Tally, f
     for path in &names {
         let sheet = std::fs::read(path).expect("a sheet");
         let answer = std::fs::read(path.with_extension("answer")).expect("an answer beside the sheet");
-        let mut request = sheets::print_request(chance, &sheet);
+        let mut request = sheets::print_request(chance, &sheet, answer.len());
         request.parts[1] = tables::lent(chance, 1, sheets::PRINTED);
         let mut wanted = request.refused(0);
         wanted.parts[1].write_front(&answer);
@@ -202,16 +217,17 @@ fn main() {
     check_oracle(&mut chance, count / 20);
     small_tables(&mut driver, &mut chance, &mut tally, count);
     large_tables(&mut driver, &mut chance, &mut tally, count / 20);
+    tied_tables(&mut driver, &mut chance, &mut tally, count);
     random_sheets(&mut driver, &mut chance, &mut tally, count);
     let sheets = example_sheets(&mut driver, &mut chance, &mut tally, examples);
     let missing = tally.missing();
     missing.iter().for_each(|words| println!("{words}"));
     let ended = driver.finish();
+    let large = count / 20;
     let calls: usize = tally.given.values().sum::<usize>() + stored;
     println!(
-        "compare: seed {seed}, {count} tables up to 7 rows, {} tables of 8 to 32 rows, {count} sheets, {sheets} example sheets, \
-         {stored} stored vectors, {calls} calls, {} different",
-        count / 20,
+        "compare: seed {seed}, {count} tables up to 7 rows, {large} of 8 to 32 rows, as many with ties, {count} sheets, \
+         {sheets} example sheets, {stored} stored vectors, {calls} calls, {} different",
         tally.failures
     );
     for (call, count) in &tally.different {

@@ -2,7 +2,7 @@
 
 use crate::brute;
 use crate::certificate;
-use crate::table::{Solved, Table, ABSENT};
+use crate::table::{ColumnHead, Solved, Table, ABSENT};
 use crate::wire::{Answer, Call, Part, Request};
 
 /// A table with its answer, or with nothing where no complete transversal exists.
@@ -50,7 +50,7 @@ fn lengths_wanted(request: &Request) -> Vec<usize> {
     let n = request.n as usize;
     match request.call {
         Call::Solve => vec![n * n, n, n, n],
-        Call::FromCanon | Call::FromStars => vec![n * n, n, n, n, n],
+        Call::FromCanon | Call::FromStars | Call::ColumnHeads => vec![n * n, n, n, n, n],
         _ => vec![n * n, n],
     }
 }
@@ -74,7 +74,7 @@ pub fn refused_at_sight(request: &Request) -> Option<u32> {
     }
     let given = request.parts[1].as_numbers();
     match request.call {
-        Call::FromCanon | Call::IsSimplest if given.iter().any(|&a| a > 10_000) => Some(4),
+        Call::FromCanon | Call::IsSimplest | Call::ColumnHeads if given.iter().any(|&a| a > 10_000) => Some(4),
         Call::FromStars if !star_list_stands(request.n, &given) => Some(5),
         _ => None,
     }
@@ -82,6 +82,9 @@ pub fn refused_at_sight(request: &Request) -> Option<u32> {
 
 /// The answer that a solver call must give, every lent byte included.
 pub fn expected(request: &Request, truth: &Truth) -> Answer {
+    if request.call == Call::ColumnHeads {
+        return expected_heads(request);
+    }
     if let Some(number) = refused_at_sight(request) {
         return request.refused(number);
     }
@@ -100,6 +103,24 @@ pub fn expected(request: &Request, truth: &Truth) -> Answer {
             answer
         }
     }
+}
+
+/// What the heads of columns must answer: whether a complete transversal exists is not asked.
+pub fn expected_heads(request: &Request) -> Answer {
+    if let Some(number) = refused_at_sight(request) {
+        return request.refused(number);
+    }
+    let table = Table { n: request.n as usize, entries: request.parts[0].as_orders() };
+    headed(request, &table.column_heads(&request.parts[1].as_numbers()))
+}
+
+/// The answer with these heads, rows and counts.
+pub fn headed(request: &Request, columns: &[ColumnHead]) -> Answer {
+    let mut answer = request.refused(0);
+    answer.parts[2] = Part::signed(&columns.iter().map(|c| c.head).collect::<Vec<_>>());
+    answer.parts[3] = Part::numbers(&columns.iter().map(|c| c.row).collect::<Vec<_>>());
+    answer.parts[4] = Part::numbers(&columns.iter().map(|c| c.count).collect::<Vec<_>>());
+    answer
 }
 
 fn greatest(truth: &Truth, solved: &Solved, stars: &[u32]) -> bool {

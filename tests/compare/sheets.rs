@@ -188,34 +188,35 @@ fn written(request: &Request, text: &[u8], out: usize) -> Answer {
     answer
 }
 
-/// The program's answer, as text.
-pub fn printed(sheet: &[u8], solve: &dyn Fn(Table) -> Option<Solved>) -> String {
+/// The program's answer as text, for a table small enough to try every transversal.
+pub fn printed(sheet: &[u8]) -> String {
     if sheet.len() > 12_288 {
         return "refused 9\n".to_string();
     }
     match read(sheet) {
         Err(line) => format!("refused 10 {line}\n"),
-        Ok(labelled) => match solve(labelled.table) {
-            None => "refused 6\n".to_string(),
-            Some(solved) => sections(&solved),
-        },
+        Ok(labelled) => {
+            let truth = Truth::by_trying(labelled.table);
+            truth.solved.as_ref().map_or("refused 6\n".to_string(), |solved| sections(&truth.table, solved))
+        }
     }
 }
 
-fn sections(solved: &Solved) -> String {
+fn sections(table: &Table, solved: &Solved) -> String {
+    let ties = table.column_heads(&solved.additions);
     let index = *solved.additions.iter().max().expect("a table has a row");
     let section = |name: &str, values: Vec<String>| format!("{name} {}\n{}\n", values.len(), values.join("\n"));
     section("adds", solved.additions.iter().map(|v| v.to_string()).collect())
         + &section("stars", solved.stars.iter().map(|v| v.to_string()).collect())
         + &section("heads", solved.heads.iter().map(|v| v.to_string()).collect())
+        + &section("ties", ties.iter().map(|column| column.count.to_string()).collect())
         + &section("sum", vec![solved.sum.to_string()])
         + &section("index", vec![index.to_string()])
 }
 
-/// What printing must answer, for a table small enough to try every transversal.
+/// What printing must answer.
 pub fn expected_print(request: &Request) -> Answer {
-    let answer = printed(&request.parts[0].bytes, &|table| Truth::by_trying(table).solved);
-    written(request, answer.as_bytes(), 1)
+    written(request, printed(&request.parts[0].bytes).as_bytes(), 1)
 }
 
 fn random_label(chance: &mut Chance) -> Vec<u8> {
@@ -376,8 +377,8 @@ fn spoil_label(chance: &mut Chance, slots: &mut [u8]) {
 /// Room enough for every printed answer: CANON_PRINTED of canon.h.
 pub const PRINTED: usize = 4000;
 
-/// A request of the printer with rooms of many lengths.
-pub fn print_request(chance: &mut Chance, sheet: &[u8]) -> Request {
-    let room = chance.one_of(&[PRINTED, PRINTED, 467, 466, 60, 20, 9, 0]);
+/// A request of the printer with rooms of many lengths, that of the answer and one byte less among them.
+pub fn print_request(chance: &mut Chance, sheet: &[u8], length: usize) -> Request {
+    let room = chance.one_of(&[PRINTED, PRINTED, length, length, length - 1, length / 2, 9, 0]);
     Request { call: Call::Print, n: 0, parts: vec![Part::text(sheet), lent(chance, 1, room), lent(chance, 8, 1)] }
 }

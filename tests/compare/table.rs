@@ -17,6 +17,14 @@ pub struct Solved {
     pub sum: i32,
 }
 
+/// What is asked of one column: its head, the lowest row that holds it, from 1, and how many rows do.
+#[derive(Clone, Copy, PartialEq, Eq, Debug)]
+pub struct ColumnHead {
+    pub head: i32,
+    pub row: u32,
+    pub count: u32,
+}
+
 impl Table {
     pub fn empty(n: usize) -> Table {
         Table { n, entries: vec![ABSENT; n * n] }
@@ -38,6 +46,18 @@ impl Table {
 
     pub fn heads(&self, additions: &[u32]) -> Option<Vec<i32>> {
         (0..self.n).map(|j| self.head(additions, j)).collect()
+    }
+
+    /// Document 02's fuller answer, by looking at every row; all 0 in a column with no present order.
+    pub fn column_head(&self, additions: &[u32], j: usize) -> ColumnHead {
+        let Some(head) = self.head(additions, j) else { return ColumnHead { head: 0, row: 0, count: 0 } };
+        let holds = |i: &usize| self.order(*i, j).is_some_and(|order| order + additions[*i] as i32 == head);
+        let holders: Vec<usize> = (0..self.n).filter(holds).collect();
+        ColumnHead { head, row: holders[0] as u32 + 1, count: holders.len() as u32 }
+    }
+
+    pub fn column_heads(&self, additions: &[u32]) -> Vec<ColumnHead> {
+        (0..self.n).map(|j| self.column_head(additions, j)).collect()
     }
 
     /// Is the place a column maximum?

@@ -26,7 +26,7 @@ pub fn random_table(chance: &mut Chance, n: usize) -> Table {
 }
 
 /// Orders from `low` to `high`, present in a random part of the places, from `least` to `most` in a hundred.
-fn filled(chance: &mut Chance, n: usize, least: i64, most: i64, low: i64, high: i64) -> Table {
+pub fn filled(chance: &mut Chance, n: usize, least: i64, most: i64, low: i64, high: i64) -> Table {
     let mut table = Table::empty(n);
     let part = chance.between(least, most) as usize;
     for i in 0..n {
@@ -166,7 +166,7 @@ fn random_additions(chance: &mut Chance, truth: &Truth) -> Vec<u32> {
 }
 
 /// One addition a little more or less.
-fn nudge(chance: &mut Chance, additions: &mut [u32]) {
+pub fn nudge(chance: &mut Chance, additions: &mut [u32]) {
     let i = chance.below(additions.len());
     additions[i] = (additions[i] as i64 + chance.one_of(&[-1, 1, -2, 3])).max(0) as u32;
 }
@@ -230,6 +230,8 @@ pub fn request(chance: &mut Chance, call: Call, table: &Table, given: &[u32]) ->
     }
     if call == Call::IsSimplest {
         parts.push(lent(chance, 1, 1));
+    } else if call == Call::ColumnHeads {
+        parts.extend([lent(chance, 4, n), lent(chance, 4, n), lent(chance, 4, n)]);
     } else {
         parts.extend([lent(chance, 4, n), lent(chance, 4, n), lent(chance, 4, n), lent(chance, 4, 1)]);
     }
@@ -244,6 +246,7 @@ pub fn requests(chance: &mut Chance, truth: &Truth) -> Vec<Request> {
         let additions = random_additions(chance, truth);
         all.push(request(chance, Call::FromCanon, table, &additions));
         all.push(request(chance, Call::IsSimplest, table, &additions));
+        all.push(request(chance, Call::ColumnHeads, table, &additions));
         let stars = random_stars(chance, truth);
         all.push(request(chance, Call::FromStars, table, &stars));
     }
@@ -259,7 +262,7 @@ pub fn requests(chance: &mut Chance, truth: &Truth) -> Vec<Request> {
 }
 
 /// One or two things wrong: the size, a length, or an entry.
-fn spoil(chance: &mut Chance, request: &mut Request) {
+pub fn spoil(chance: &mut Chance, request: &mut Request) {
     for _ in 0..chance.between(1, 2) {
         match chance.below(4) {
             0 => request.n = chance.one_of(&[0, 33, 34, 64, 1 << 16, 1 << 32, 1 << 63, u64::MAX, request.n + 1]),
@@ -270,7 +273,7 @@ fn spoil(chance: &mut Chance, request: &mut Request) {
 }
 
 fn spoil_length(chance: &mut Chance, request: &mut Request) {
-    let slices = request.parts.len() - 1;
+    let slices = request.slices();
     let part = &mut request.parts[chance.below(slices)];
     let count = part.count();
     let other = chance.one_of(&[0, count.saturating_sub(1), count + 1, 2 * count, 1024]);

@@ -3,13 +3,15 @@
 //! A case is `case NAME`, the table's rows (`row 2 - 0`, absent as `-`), then what must come out of the table alone
 //! (`adds`, `stars`, `heads`, `sum`, as far as the source prints them, or `refused`), then what must come of lists handed
 //! in: `from-canon LIST`, `from-stars LIST` (the table's own answer, or `: refused NUMBER`), `simplest LIST : yes`, `: no`
-//! or `: refused NUMBER`. `all VALUE N` stands for N rows of one value; `#` starts a comment.
+//! or `: refused NUMBER`, `column-heads LIST : HEAD ROW COUNT, ..` (a column each) or `: refused NUMBER`; `ties` are the counts
+//! under the additions found. `all VALUE N` stands for N rows of one value; `#` starts a comment.
 
 use crate::certificate;
 use crate::chance::Chance;
-use crate::table::{Solved, Table, ABSENT};
+use crate::oracle;
+use crate::table::{ColumnHead, Solved, Table, ABSENT};
 use crate::tables::request;
-use crate::wire::{Answer, Call, Driver};
+use crate::wire::{Answer, Call, Driver, Request};
 
 #[derive(Default)]
 struct Case {
@@ -18,6 +20,7 @@ struct Case {
     adds: Option<Vec<u32>>,
     stars: Option<Vec<u32>>,
     heads: Option<Vec<i32>>,
+    ties: Option<Vec<u32>>,
     sum: Option<i32>,
     refused: u32,
     tries: Vec<(Call, Vec<u32>, String)>,
@@ -44,11 +47,13 @@ impl Case {
             "adds" => self.adds = Some(numbers(rest)),
             "stars" => self.stars = Some(numbers(rest)),
             "heads" => self.heads = Some(numbers(rest)),
+            "ties" => self.ties = Some(numbers(rest)),
             "sum" => self.sum = numbers(rest).pop(),
             "refused" => self.refused = numbers(rest)[0],
             "from-canon" => self.tries.push((Call::FromCanon, numbers(list), outcome.to_string())),
             "from-stars" => self.tries.push((Call::FromStars, numbers(list), outcome.to_string())),
             "simplest" => self.tries.push((Call::IsSimplest, numbers(list), outcome.to_string())),
+            "column-heads" => self.tries.push((Call::ColumnHeads, numbers(list), outcome.to_string())),
             _ => panic!("the vectors have no word {word}"),
         }
     }
@@ -104,7 +109,7 @@ fn fault_alone(case: &Case, answer: &Answer) -> Option<String> {
     certificate::fault(&case.table(), &solved).map(|fault| fault.to_string())
 }
 
-fn fault_of_try(call: Call, outcome: &str, alone: &Answer, answer: &Answer) -> Option<String> {
+fn fault_of_try(request: &Request, outcome: &str, alone: &Answer, answer: &Answer) -> Option<String> {
     let wanted = match outcome.strip_prefix("refused ") {
         Some(number) => numbers(number)[0],
         None => 0,
@@ -112,12 +117,31 @@ fn fault_of_try(call: Call, outcome: &str, alone: &Answer, answer: &Answer) -> O
     if answer.status != wanted {
         return Some(format!("status {} where {wanted} is wanted", answer.status));
     }
-    let right = match (wanted, call) {
+    let right = match (wanted, request.call) {
         (0, Call::IsSimplest) => answer.parts[2].bytes == [(outcome == "yes") as u8],
+        (0, Call::ColumnHeads) => oracle::expected_heads(request) == oracle::headed(request, &column_heads(outcome)),
         (0, _) => solved_in(answer, 2) == solved_in(alone, 1),
         _ => true,
     };
+    let right = right && (request.call != Call::ColumnHeads || *answer == oracle::expected_heads(request));
     if right { None } else { Some(format!("another answer than {outcome}")) }
+}
+
+/// `HEAD ROW COUNT, ..`
+fn column_heads(words: &str) -> Vec<ColumnHead> {
+    let column = |words: &str| {
+        let [head, row, count] = numbers::<i32>(words)[..] else { panic!("no head, row and count in the vectors: {words}") };
+        ColumnHead { head, row: row as u32, count: count as u32 }
+    };
+    words.split(',').map(column).collect()
+}
+
+/// What is wrong with the heads of columns under the additions found: the heads are the answer's, the counts the ties.
+fn fault_of_ties(case: &Case, alone: &Answer, request: &Request, answer: &Answer) -> Option<String> {
+    if *answer != oracle::expected_heads(request) || answer.parts[2] != alone.parts[3] {
+        return Some("other heads, rows or counts".to_string());
+    }
+    differs(&case.ties, &answer.parts[4].as_numbers()).then(|| "other ties than are stored".to_string())
 }
 
 /// Runs all vectors; gives their number and prints what fails.
@@ -128,10 +152,16 @@ pub fn run(driver: &mut Driver, text: &str, failures: &mut usize) -> usize {
         let table = case.table();
         let mut requests = vec![request(&mut chance, Call::Solve, &table, &[])];
         requests.extend(case.tries.iter().map(|(call, given, _)| request(&mut chance, *call, &table, given)));
-        let answers = driver.ask(&requests);
+        let mut answers = driver.ask(&requests);
         let mut faults = vec![fault_alone(&case, &answers[0])];
-        for ((call, _, outcome), answer) in case.tries.iter().zip(&answers[1..]) {
-            faults.push(fault_of_try(*call, outcome, &answers[0], answer));
+        for (k, (_, _, outcome)) in case.tries.iter().enumerate() {
+            faults.push(fault_of_try(&requests[k + 1], outcome, &answers[0], &answers[k + 1]));
+        }
+        if answers[0].status == 0 {
+            let again = request(&mut chance, Call::ColumnHeads, &table, &solved_in(&answers[0], 1).additions);
+            answers.extend(driver.ask(std::slice::from_ref(&again)));
+            faults.push(fault_of_ties(&case, &answers[0], &again, &answers[answers.len() - 1]));
+            requests.push(again);
         }
         for (fault, request) in faults.iter().zip(&requests).filter_map(|(f, r)| Some((f.as_ref()?, r))) {
             println!("vector {}: {fault}\n{}", case.name, request.describe());

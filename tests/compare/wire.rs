@@ -12,6 +12,7 @@ pub enum Call {
     ReadSheet = 5,
     WriteSheet = 6,
     Print = 7,
+    ColumnHeads = 8,
 }
 
 /// A lent slice, or a single result as a slice of one element.
@@ -103,6 +104,11 @@ impl Request {
     /// The answer that refuses: nothing lent is changed.
     pub fn refused(&self, status: u32) -> Answer {
         Answer { status, guarded: true, parts: self.parts.clone() }
+    }
+
+    /// How many parts are slices; a single result stands behind them, but of the heads of columns there is none.
+    pub fn slices(&self) -> usize {
+        if self.call == Call::ColumnHeads { self.parts.len() } else { self.parts.len() - 1 }
     }
 
     /// What was asked, in words, so that a failure can be tried by hand.

@@ -3,7 +3,7 @@
 
     python3 tests/program_sheets.py FOLDER
 
-Additions, stars and heads come from route_vectors.py, which works them out from document 01's definitions and checks them; the
+Additions, stars, heads and ties come from route_vectors.py, which works them out from document 01's definitions and checks them; the
 sheets and the printed pages are joined here from their lines. Nothing is shared with the crates.
 """
 import os
@@ -30,7 +30,7 @@ def page(t):
         return ["refused 6"]
     stars = truth.first(truth.maxima(t, l))
     sections = {"adds": l, "stars": [j + 1 for j in stars], "heads": truth.heads_of(t, l),
-                "sum": [truth.total(t, stars)], "index": [max(l)]}
+                "ties": [count for _, _, count in truth.column_heads(t, l)], "sum": [truth.total(t, stars)], "index": [max(l)]}
     return [str(line) for name, values in sections.items() for line in (f"{name} {len(values)}", *values)]
 
 
@@ -53,12 +53,13 @@ def inputs():
     pendulum = sheet(truth.PENDULUM, ["fx", "fy", "rod"], ["x", "y", "pull"])
 
     # 32 rows: additions up to (N - 1) x 200 and heads on both sides of 0, so that the page is long; every place present, so that
-    # the sheet is; every place alike
+    # the sheet is; every place alike, so that all rows tie in every column; few orders, so that many do
     stairs = truth.staircase(32, -100, 100, -100)
     chance.shuffle(stairs)
     yield "long_page", tabled(stairs)
     yield "long_sheet", tabled([[chance.randint(-100, 100) for _ in range(32)] for _ in range(32)])
     yield "all_100", tabled([[100] * 32 for _ in range(32)])
+    yield "many_ties", tabled([[A if chance.randrange(5) == 0 else chance.randint(-1, 1) for _ in range(20)] for _ in range(20)])
     yield "one_row", tabled([[-3]])
     yield "no_transversal", tabled(truth.read("0 - / 7 -"))
     yield "no_orders", tabled([[A] * 32 for _ in range(32)])

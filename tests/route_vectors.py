@@ -1,5 +1,5 @@
 #!/usr/bin/env python3
-"""Writes crates/route_vectors/stdin (the vectors of the four public calls) and crates/route_vectors/stdout (what is expected).
+"""Writes crates/route_vectors/stdin (the vectors of the public calls on tables) and crates/route_vectors/stdout (what is expected).
 
 The expected answers come straight from document 01's definitions and share no code with the crates. Nothing here grows trees or
 lowers additions: a transversal of greatest sum is found (up to N = 7 by trying every transversal, above that by longest
@@ -60,6 +60,12 @@ def heads_of(t, l):
     n = len(t)
     columns = [[t[i][j] + l[i] for i in range(n) if t[i][j] is not A] for j in range(n)]
     return [max(c) if c else None for c in columns]
+
+
+def column_heads(t, l):
+    """Document 02: of each column the head, the lowest row that holds it, from 1, and how many rows do; all 0 where no order is present."""
+    held = [[i + 1 for i, row in enumerate(t) if row[j] is not A and row[j] + l[i] == h] for j, h in enumerate(heads_of(t, l))]
+    return [(h, rows[0], len(rows)) if rows else (0, 0, 0) for h, rows in zip(heads_of(t, l), held)]
 
 
 def maxima(t, l):
@@ -202,8 +208,10 @@ def refusal(call, n, table, given, lent):
         return 2
     if any(v is not A and not -ORDER <= v <= ORDER for v in table):
         return 3
-    if call in (2, 4) and any(g > HANDED for g in given):
+    if call in (2, 4, 5) and any(g > HANDED for g in given):
         return 4
+    if call == 5:
+        return None
     if call == 3 and sorted(given) != list(range(1, n + 1)):
         return 5
     t = square(n, table)
@@ -223,11 +231,13 @@ def square(n, table):
 
 
 def outcome(call, n, table, given, lent):
-    """The answer's words, and what the lent additions, stars and heads hold afterwards."""
+    """The answer's words, and what the lent additions, stars and heads hold afterwards; for call 5 heads, rows and counts."""
     number = refusal(call, n, table, given, lent)
     if number is not None:
         return f"refused {number}", lent
     t = square(n, table)
+    if call == 5:
+        return "done", [list(values) for values in zip(*column_heads(t, given))]
     l = simplest(t)
     if call == 4:
         return ("yes" if list(given) == l else "no"), lent
@@ -241,11 +251,18 @@ def outcome(call, n, table, given, lent):
 VECTORS = []
 
 
+CALLS = ("route 1", "route 2", "route 3", "yes or no", "heads of columns")
+LENT = ("adds", "stars", "heads")
+COLUMNS = ("heads", "rows", "counts")
+
+
 def vector(title, call, n, table, given=(), lengths=None):
-    """Distinct values fill what is lent; `lengths` are those of the lent additions, stars and heads."""
-    a, s, h = lengths if lengths is not None else ((n, n, n) if call != 4 else (0, 0, 0))
-    lent = [[5001 + k for k in range(a)], [6001 + k for k in range(s)], [-7001 - k for k in range(h)]]
-    VECTORS.append((f"{title}; {('route 1', 'route 2', 'route 3', 'yes or no')[call - 1]}", call, n, list(table), list(given), lent))
+    """Distinct values fill what is lent; `lengths` are those of the lent additions, stars and heads, or of heads, rows and counts."""
+    lengths = lengths if lengths is not None else ((n, n, n) if call != 4 else (0, 0, 0))
+    fill = {"heads": (-7001, -1), "adds": (5001, 1), "rows": (5001, 1), "stars": (6001, 1), "counts": (6001, 1)}
+    names = COLUMNS if call == 5 else LENT
+    lent = [[fill[name][0] + fill[name][1] * k for k in range(length)] for name, length in zip(names, lengths)]
+    VECTORS.append((f"{title}; {CALLS[call - 1]}", call, n, list(table), list(given), lent))
 
 
 def flat(rows):
@@ -272,11 +289,18 @@ def from_columns(title, rows, *lists):
         vector(f"{title} with {' '.join(map(str, given[:10]))}", 3, len(rows), flat(rows), given)
 
 
+def columns_under(title, rows, *lists):
+    """Heads of columns under each list of additions."""
+    for given in lists:
+        vector(f"{title} under {' '.join(map(str, given[:10]))}", 5, len(rows), flat(rows), given)
+
+
 def every_call(title, rows):
     """All calls on one table: from the simplest canon, from one with 7 more in each row, from the stars, and the like where none exists."""
     n = len(rows)
     vector(title, 1, n, flat(rows))
     l = simplest(rows)
+    columns_under(title, rows, l or [0] * n)
     if l is None:
         from_additions(title, rows, [0] * n)
         from_columns(title, rows, list(range(1, n + 1)))
@@ -334,10 +358,10 @@ def limits():
     """Both ends of each limit."""
     for n, lengths, entries in ((0, (0, 0, 0), 0), (0, (1, 1, 1), 1), (33, (33, 33, 33), 1089), (33, (32, 32, 32), 1024),
                                 (4294967296, (0, 0, 0), 0), (64, (0, 0, 0), 0)):
-        for call in (1, 2, 3, 4):
+        for call in (1, 2, 3, 4, 5):
             vector(f"N = {n} with {entries} entries", call, n, [0] * entries, range(1, lengths[0] + 1), lengths if call != 4 else None)
     for v in (100, -100, 101, -101, 32767, -32767):
-        for call in (1, 2, 3, 4):
+        for call in (1, 2, 3, 4, 5):
             vector(f"{v}", call, 1, [v], [1] if call == 3 else [0])
         for k in range(4):
             vector(f"{v} in place {k + 1} of four", 1 + k, 2, [v if k == j else 0 for j in range(4)], [1, 2])
@@ -368,13 +392,13 @@ def lengths():
     for n, table in ((1, [0]), (2, [5, 0, 5, 0]), (32, [0] * 1024)):
         stars = list(range(1, n + 1))
         for d in (-1, 1):
-            for call in (1, 2, 3, 4) if n < 32 else (1, 3):
+            for call in (1, 2, 3, 4, 5) if n < 32 else (1, 3):
                 longer = table + [0] if d == 1 else table[:-1]
                 vector(f"N = {n}, table of {len(longer)}", call, n, longer, stars)
-            for call in (2, 3, 4):
+            for call in (2, 3, 4, 5):
                 vector(f"N = {n}, {n + d} given", call, n, table, stars + [n + 1] if d == 1 else stars[:-1])
-            for call in (1, 2, 3) if n < 32 else (1,):
-                for k, word in enumerate(("additions", "stars", "heads")):
+            for call in (1, 2, 3, 5) if n < 32 else (1,):
+                for k, word in enumerate(("additions", "stars", "heads") if call != 5 else COLUMNS):
                     lent = [n, n, n]
                     lent[k] += d
                     vector(f"N = {n}, {n + d} {word}", call, n, table, stars, lent)
@@ -383,7 +407,7 @@ def lengths():
 def precedence():
     """Where several refusals apply, the lowest is given."""
     bad, none = [101, A, 0, A], [0, A, 7, A]
-    for call in (1, 2, 3, 4):
+    for call in (1, 2, 3, 4, 5):
         lent = (1, 3, 2) if call != 4 else None
         vector("1 before 2 and 3", call, 33, bad, [10001], lent)
         vector("1 before 2 and 3, N = 0", call, 0, bad, [10001], lent)
@@ -397,6 +421,23 @@ def precedence():
     from_columns("5 before 8", read("1 0 / 2 0"), [1, 1], [1, 3])
     from_columns("6 before 8", read("0 - / 7 -"), [1, 2], [2, 1])
     from_columns("8, a star on an absent place", read("0 - / - 7"), [2, 1])
+
+
+def columns():
+    """Heads of columns: no order at all, one row, all rows tied, ties that additions make and break, both ends of the limits."""
+    columns_under("-", read("-"), [10000], [10001])
+    columns_under("-3", read("-3"), [10000], [10001], [4294967295])
+    columns_under("0 - / 7 -", read("0 - / 7 -"), [7, 0], [8, 0], [10000, 10000], [10001, 0], [0, 10001])
+    columns_under("5 0 / 5 0", read("5 0 / 5 0"), [1, 0], [0, 1], [10000, 9999])
+    columns_under("0 - 1 / - - 1 / 0 - -", read("0 - 1 / - - 1 / 0 - -"), [0, 0, 0], [1, 0, 0], [0, 1, 1], [0, 0, 10000], [10000, 10000, 10000])
+    columns_under("-100 100 / 100 -100", read("-100 100 / 100 -100"), [0, 0], [200, 0], [0, 200], [10000, 9800], [9800, 10000])
+    columns_under("-1 -2 / -1 -1", read("-1 -2 / -1 -1"), [0, 0], [1, 0], [1, 1], [2, 1])
+    columns_under("the pendulum", PENDULUM, [0, 0, 0], [0, 0, 1], [0, 0, 3], [4, 4, 6])
+    columns_under("Jacobi's square", JACOBI, [0] * 10, *CHAIN.values())
+    columns_under("000 note 16", read("2 2 2 / - 1 - / - 0 0"), [0, 0, 0], [0, 1, 1])
+    same = [[0] * 32 for _ in range(32)]
+    columns_under("N = 32, all entries 0", same, [10000] * 32, [0] * 31 + [1], [1] + [0] * 31, [0] * 31 + [10001])
+    vector("N = 32, the last entry 101", 5, 32, [0] * 1023 + [101], [10001] * 32)
 
 
 def handed():
@@ -445,6 +486,7 @@ def signed():
     for cells in itertools.product((A, -1, 0, 1), repeat=4):
         rows = [list(cells[:2]), list(cells[2:])]
         vector(written(rows), 1, 2, flat(rows))
+        columns_under(written(rows), rows, [0, 0])
     dice = random.Random(1865)
     for n, width, holes in ((3, 1, 0), (3, 1, 2), (4, 2, 3), (4, 100, 0), (5, 2, 2), (5, 100, 3), (6, 3, 2), (6, 100, 2), (7, 2, 2), (7, 100, 3),
                             (8, 2, 2), (12, 3, 5), (20, 4, 6), (32, 5, 7)):
@@ -492,6 +534,11 @@ PRINTED = {
     "001, second example; route 1": "sum 150, adds 14 10 8 2 7 0 0",
     "000 note 16; route 1": "sum 3, adds 0 1 2, stars 1 2 3, heads 2 2 2",
     "003 note 7; route 1": "sum 5, adds 0 0",
+    # document 02: "In a column with no present order head, count and row are 0."
+    "- under 0; heads of columns": "done, heads 0, rows 0, counts 0",
+    "0 - / 7 - under 0 0; heads of columns": "done, heads 7 0, rows 2 0, counts 1 0",
+    "5 0 / 5 0 under 0 0; heads of columns": "done, heads 5 0, rows 1 1, counts 2 2",
+    "5 0 / 5 0 under 0 1; heads of columns": "done, heads 6 1, rows 2 2, counts 1 1",
 }
 
 
@@ -509,13 +556,14 @@ def listed(values):
 
 
 def files():
-    for section in (edges, limits, lengths, precedence, handed, sources, signed):
+    for section in (edges, limits, lengths, precedence, columns, handed, sources, signed):
         section()
     given, expected = [str(len(VECTORS))], []
     for title, call, n, table, handed_in, lent in VECTORS:
-        given += [title, " ".join([str(call), str(n)] + [listed(v) for v in [table, handed_in] + lent])]
+        rolled = lent[1:] + lent[:1] if call == 5 else lent  # heads are the last list of every vector
+        given += [title, " ".join([str(call), str(n)] + [listed(v) for v in [table, handed_in] + rolled])]
         words, after = outcome(call, n, table, handed_in, lent)
-        names = zip(("adds", "stars", "heads"), after)
+        names = zip(COLUMNS if call == 5 else LENT, after)
         expected += [title, words + "".join(", " + " ".join([name] + [str(v) for v in values]) for name, values in names)]
     check_printed(expected)
     return "\n".join(given) + "\n", "\n".join(expected) + "\n"

@@ -1,12 +1,15 @@
-// Runs the vectors on standard input through the four public calls of `canon`, and prints each answer with what the lent slices then
+// Runs the vectors on standard input through the five public calls of `canon`, and prints each answer with what the lent slices then
 // hold. The text: how many vectors there are; then for each a line with its title, which is printed as it stands, and a line of
-// numbers parted by one blank: the call (1 to 3 the routes, 4 the yes-or-no), N, and five lists, each its length and then its
-// values: the table (`-` alone is absent), what is given, and what the lent additions, stars and heads hold at the call.
+// numbers parted by one blank: the call (1 to 3 the routes, 4 the yes-or-no, 5 the heads of columns), N, and five lists, each its
+// length and then its values: the table (`-` alone is absent), what is given, and what the lent additions, stars and heads, or
+// rows, counts and heads, hold at the call.
 ghost use Prim.Native.Nat.{_≤_};
 ghost use mathlib.Core.Path.{_≡_};
 ghost use lib.ListN.{length};
 use canon::Answer;
+use canon::Filled;
 use canon::Verdict;
+use canon::column_heads;
 use canon::from_canon;
 use canon::from_stars;
 use canon::is_simplest;
@@ -18,7 +21,7 @@ const PLACES: usize = 1156;
 
 const LISTED: usize = 34;
 
-const TEXT: usize = 409600;
+const TEXT: usize = 524288;
 
 // One number of the text: whether a minus stands before it, its size, and where the next one starts.
 struct Number {
@@ -302,6 +305,37 @@ fn print_verdict(verdict: Verdict) {
     }
 }
 
+fn print_filled(filled: Filled) {
+    match filled {
+        Filled::Done => {
+            io::write_all(1, b"done");
+        }
+        Filled::Refused(refusal) => {
+            io::write_all(1, b"refused");
+            print_unsigned(orders::number(refusal));
+        }
+    }
+}
+
+// Makes the call for the heads of columns, and prints its answer and what the lent slices then hold.
+fn print_columns(
+    n: usize,
+    table: &[i16],
+    given: &[u32],
+    heads: &mut [i32],
+    rows: &mut [u32],
+    counts: &mut [u32],
+) {
+    print_filled(column_heads(n, table, given, heads, rows, counts));
+    io::write_all(1, b", heads");
+    print_heads(heads);
+    io::write_all(1, b", rows");
+    print_list(rows);
+    io::write_all(1, b", counts");
+    print_list(counts);
+    io::write_all(1, b"\n");
+}
+
 // Makes the call and prints its answer.
 fn print_call(
     call: u64,
@@ -320,7 +354,8 @@ fn print_call(
     }
 }
 
-// Makes the call, and prints its answer and what the lent slices then hold.
+// Makes the call, and prints its answer and what the lent slices then hold. For the heads of columns the lent additions are the rows,
+// the stars the counts.
 fn print_outcome(
     call: u64,
     n: usize,
@@ -330,6 +365,10 @@ fn print_outcome(
     stars: &mut [u32],
     heads: &mut [i32],
 ) {
+    if call == 5 {
+        print_columns(n, table, given, heads, adds, stars);
+        return;
+    }
     print_call(call, n, table, given, adds, stars, heads);
     io::write_all(1, b", adds");
     print_list(adds);

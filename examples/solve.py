@@ -1,4 +1,4 @@
-"""The rod pendulum, solved from Python: python3 examples/solve.py LIBRARY
+"""The rod pendulum, solved from Python, and the ties that a drawing screen would mark: python3 examples/solve.py LIBRARY
 
 LIBRARY is a shared object made from the archive:
   cc -shared -o libcanon.so -Wl,--whole-archive target/staticlib/libexports.a -Wl,--no-whole-archive
@@ -9,28 +9,52 @@ import sys
 ABSENT = -32768
 
 
-def solve(library, rows):
-    """The simplest canon of a table (None where an unknown is absent): additions, stars, heads and the sum."""
-    n = len(rows)
-    size = ctypes.c_size_t
-    table = (ctypes.c_int16 * (n * n))(*(ABSENT if order is None else order for row in rows for order in row))
-    adds, stars, heads = (ctypes.c_uint32 * n)(), (ctypes.c_uint32 * n)(), (ctypes.c_int32 * n)()
-    total = ctypes.c_int32()
-    library.canon_solve.restype = ctypes.c_uint32
-    refused = library.canon_solve(
-        size(n), table, size(n * n), adds, size(n), stars, size(n), heads, size(n), ctypes.byref(total)
-    )
+def lent(rows):
+    """A table (None where an unknown is absent) as the library takes it."""
+    entries = [ABSENT if order is None else order for row in rows for order in row]
+    return (ctypes.c_int16 * len(entries))(*entries)
+
+
+def call(function, n, *slices):
+    """Calls a function of the library with n and slices; a single result among them is handed on as it is."""
+    words = [ctypes.c_size_t(n)]
+    for one in slices:
+        words += [one, ctypes.c_size_t(len(one))] if isinstance(one, ctypes.Array) else [ctypes.byref(one)]
+    function.restype = ctypes.c_uint32
+    refused = function(*words)
     if refused:
         raise ValueError(f"refused {refused}")
+
+
+def solve(library, rows):
+    """The simplest canon of a table: additions, stars, heads and the sum."""
+    n = len(rows)
+    adds, stars, heads, total = (ctypes.c_uint32 * n)(), (ctypes.c_uint32 * n)(), (ctypes.c_int32 * n)(), ctypes.c_int32()
+    call(library.canon_solve, n, lent(rows), adds, stars, heads, total)
     return list(adds), list(stars), list(heads), total.value
+
+
+def column_heads(library, rows, adds):
+    """Under these additions, for each column: its head, the lowest row that holds it, and how many rows do."""
+    n = len(rows)
+    given, heads, lowest, counts = (ctypes.c_uint32 * n)(*adds), (ctypes.c_int32 * n)(), (ctypes.c_uint32 * n)(), (ctypes.c_uint32 * n)()
+    call(library.canon_column_heads, n, lent(rows), given, heads, lowest, counts)
+    return list(zip(heads, lowest, counts))
 
 
 def main():
     library = ctypes.CDLL(sys.argv[1])
     # Equations down (fx, fy, rod), unknowns across (x, y, pull).
-    adds, stars, heads, total = solve(library, [[2, None, 0], [None, 2, 0], [0, 0, None]])
-    for name, values in ("adds", adds), ("stars", stars), ("heads", heads), ("sum", [total]), ("index", [max(adds)]):
+    rows = [[2, None, 0], [None, 2, 0], [0, 0, None]]
+    adds, stars, heads, total = solve(library, rows)
+    columns = column_heads(library, rows, adds)
+    ties = [count for _, _, count in columns]
+    sections = {"adds": adds, "stars": stars, "heads": heads, "ties": ties, "sum": [total], "index": [max(adds)]}
+    for name, values in sections.items():
         print(f"{name} {len(values)}", *values, sep="\n")
+    for number, (head, lowest, count) in enumerate(columns, 1):
+        if count > 1:
+            print(f"column {number}: {count} rows share {head}, the lowest is row {lowest}")
 
 
 main()

@@ -1,22 +1,28 @@
 #!/usr/bin/env python3
-"""bench beside, run several times | bench/beside.py: for each call, kind and size the median of the ratios, the least and the greatest."""
+"""bench beside, run several times | bench/beside.py: for each call, kind and size the median of the ratios, the least and the greatest.
+
+An asterisk stands where the older archive gives another answer, so that the two did not do the same work."""
 import statistics
 import sys
 
 SIZES = ("8", "16", "32")
-ratios = {}
+ratios, differing = {}, set()
 for line in sys.stdin:
-    call, kind, size, own, other = line.split()
-    ratios.setdefault((call, kind), {}).setdefault(size, []).append(None if own == "answers" else float(own) / float(other))
+    call, kind, size, own, other, *differ = line.split()
+    ratios.setdefault((call, kind), {}).setdefault(size, []).append(float(own) / float(other))
+    if differ:
+        differing.add((call, kind, size))
 
 
-def shown(values):
-    if None in values:
-        return "another answer"
-    return f"{statistics.median(values):.2f} ({min(values):.2f} to {max(values):.2f})"
+def shown(call, kind, size):
+    values = ratios[call, kind][size]
+    mark = "*" if (call, kind, size) in differing else ""
+    return f"{statistics.median(values):.2f} ({min(values):.2f} to {max(values):.2f}){mark}"
 
 
 print("| call | tables | N = 8 | N = 16 | N = 32 |")
 print("|---|---|---|---|---|")
-for (call, kind), by_size in ratios.items():
-    print(f"| {call} | {kind} | " + " | ".join(shown(by_size[size]) for size in SIZES) + " |")
+for call, kind in ratios:
+    print(f"| {call} | {kind} | " + " | ".join(shown(call, kind, size) for size in SIZES) + " |")
+if differing:
+    print("\n\\* another answer than the older archive's")

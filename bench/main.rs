@@ -1,18 +1,19 @@
 //! Times the library's calls beside an ordinary implementation of the same answers, in one run.
 //!
 //! bench times [CALL]: the times in microseconds, the library's and the ordinary ones, each the median of repeats and of
-//! the processor's time alone. bench beside: the same with an older archive in the place of the ordinary program. bench
+//! the processor's time alone. bench beside CALL..: the same of these calls with an older archive in the place of the ordinary
+//! program. The answers of the two are compared first; where they are not the same, a word behind the times says so. bench
 //! stack: the stack that each call uses. bench count CALL KIND N WHO: the call on every table once, inside the function
 //! `counted`, for callgrind. bench tables: how many tables that is. bench spin CALL KIND N WHO: the same many times over,
-//! for a sampling profiler. The answers of the two are compared first. bench dump: the tables themselves. bench turns: for
-//! each kind and size on standard input the time of one repeat of `solve`, so that another program can take turns with this one.
+//! for a sampling profiler. bench dump: the tables themselves. bench turns: for each kind and size on standard input the
+//! time of one repeat of `solve`, so that another program can take turns with this one.
 
 mod ordinary;
 
 const ABSENT: i16 = -32768;
 const TABLES: usize = 24;
 const REPEATS: usize = 15;
-const CALLS: [&str; 7] = ["solve", "from_canon", "from_stars", "is_simplest", "read_sheet", "write_sheet", "print"];
+const CALLS: [&str; 8] = ["solve", "from_canon", "from_stars", "is_simplest", "column_heads", "read_sheet", "write_sheet", "print"];
 const KINDS: [&str; 6] = ["full", "small", "sparse", "staircase", "regular-stairs", "two-valued"];
 const SIZES: [usize; 3] = [8, 16, 32];
 
@@ -35,7 +36,7 @@ struct Job {
     n: usize,
     table: Vec<i16>,
     canon: Vec<u32>,
-    /// What the yes-or-no is asked: the simplest canon in some jobs, another in the rest.
+    /// What the yes-or-no and the heads of columns are handed: the simplest canon in some jobs, another in the rest.
     asked: Vec<u32>,
     stars: Vec<u32>,
     rows: Vec<u8>,
@@ -48,6 +49,8 @@ struct Room {
     adds: [u32; 32],
     stars: [u32; 32],
     heads: [i32; 32],
+    lowest: [u32; 32],
+    counts: [u32; 32],
     sum: i32,
     yes: u8,
     table: Vec<i16>,
@@ -65,6 +68,8 @@ impl Room {
             adds: [0; 32],
             stars: [0; 32],
             heads: [0; 32],
+            lowest: [0; 32],
+            counts: [0; 32],
             sum: 0,
             yes: 0,
             table: vec![0; 1024],
@@ -154,10 +159,26 @@ fn jobs(kind: &str, n: usize) -> Vec<Job> {
     (0..TABLES).map(|_| job(&mut chance, kind, n)).collect()
 }
 
-/// The calls of an archive whose functions have these names, as one function.
+type Caller = fn(&str, &Job, &mut Room) -> u32;
+
+/// What is measured: the heads of columns have a function of their own, so that it is not seen in the instructions and the
+/// stack of the other calls, which stay comparable with older runs.
+struct Program {
+    calls: Caller,
+    columns: Caller,
+}
+
+impl Program {
+    fn caller(&self, call: &str) -> Caller {
+        if call == "column_heads" { self.columns } else { self.calls }
+    }
+}
+
+/// The calls of an archive whose functions have these names.
 #[rustfmt::skip]
 macro_rules! archive {
-    ($caller:ident: $solve:ident, $from_canon:ident, $from_stars:ident, $is_simplest:ident, $read_sheet:ident, $write_sheet:ident, $print:ident) => {
+    ($caller:ident, $columns:ident: $solve:ident, $from_canon:ident, $from_stars:ident, $is_simplest:ident, $column_heads:ident,
+        $read_sheet:ident, $write_sheet:ident, $print:ident) => {
         extern "C" {
             fn $solve(n: usize, table: *const i16, table_len: usize, adds: *mut u32, adds_len: usize,
                 stars: *mut u32, stars_len: usize, heads: *mut i32, heads_len: usize, sum: *mut i32) -> u32;
@@ -169,6 +190,8 @@ macro_rules! archive {
                 sum: *mut i32) -> u32;
             fn $is_simplest(n: usize, table: *const i16, table_len: usize, given: *const u32, given_len: usize,
                 yes: *mut u8) -> u32;
+            fn $column_heads(n: usize, table: *const i16, table_len: usize, given: *const u32, given_len: usize,
+                heads: *mut i32, heads_len: usize, rows: *mut u32, rows_len: usize, counts: *mut u32, counts_len: usize) -> u32;
             fn $read_sheet(sheet: *const u8, sheet_len: usize, table: *mut i16, table_len: usize,
                 rows: *mut u8, rows_len: usize, cols: *mut u8, cols_len: usize, n: *mut usize, line: *mut usize) -> u32;
             fn $write_sheet(n: usize, table: *const i16, table_len: usize, rows: *const u8, rows_len: usize,
@@ -196,14 +219,26 @@ macro_rules! archive {
                 }
             }
         }
+
+        #[inline(never)]
+        fn $columns(_: &str, job: &Job, room: &mut Room) -> u32 {
+            let (n, heads, rows, counts) = (job.n, room.heads.as_mut_ptr(), room.lowest.as_mut_ptr(), room.counts.as_mut_ptr());
+            // Safety: as above.
+            unsafe { $column_heads(n, job.table.as_ptr(), n * n, job.asked.as_ptr(), n, heads, n, rows, n, counts, n) }
+        }
     };
 }
 
-archive!(library: canon_solve, canon_from_canon, canon_from_stars, canon_is_simplest, canon_read_sheet, canon_write_sheet, canon_print);
+archive!(library, library_columns: canon_solve, canon_from_canon, canon_from_stars, canon_is_simplest, canon_column_heads,
+    canon_read_sheet, canon_write_sheet, canon_print);
+const LIBRARY: Program = Program { calls: library, columns: library_columns };
 
-// An older archive, with other names, where `bench/run beside` links one.
+// An older archive, with other names, where `bench/run beside` links one. A call that it lacks is linked to this library's, and not made.
 #[cfg(beside)]
-archive!(older: older_solve, older_from_canon, older_from_stars, older_is_simplest, older_read_sheet, older_write_sheet, older_print);
+archive!(older, older_columns: older_solve, older_from_canon, older_from_stars, older_is_simplest, older_column_heads,
+    older_read_sheet, older_write_sheet, older_print);
+#[cfg(beside)]
+const OLDER: Program = Program { calls: older, columns: older_columns };
 
 fn keep(answer: Result<ordinary::Answer, u32>, n: usize, room: &mut Room) -> u32 {
     match answer {
@@ -260,14 +295,30 @@ fn ordinary_call(call: &str, job: &Job, room: &mut Room) -> u32 {
     }
 }
 
+#[inline(never)]
+fn ordinary_columns(_: &str, job: &Job, room: &mut Room) -> u32 {
+    let n = job.n;
+    match ordinary::column_heads(n, &job.table, &job.asked) {
+        Ok(columns) => {
+            room.heads[..n].copy_from_slice(&columns.heads[..n]);
+            room.lowest[..n].copy_from_slice(&columns.rows[..n]);
+            room.counts[..n].copy_from_slice(&columns.counts[..n]);
+            0
+        }
+        Err(number) => number,
+    }
+}
+
+const ORDINARY: Program = Program { calls: ordinary_call, columns: ordinary_columns };
+
 /// Do the library and what stands beside it answer every job with the same bytes?
-fn agree(beside: Caller, call: &str, jobs: &[Job]) -> bool {
+fn agree(beside: &Program, call: &str, jobs: &[Job]) -> bool {
     jobs.iter().all(|job| {
         let (mut one, mut other) = (Room::new(), Room::new());
-        let status = library(call, job, &mut one);
-        assert_eq!((status, beside(call, job, &mut other)), (0, 0), "{call} refused {:?}", job.table);
+        let status = LIBRARY.caller(call)(call, job, &mut one);
+        assert_eq!((status, beside.caller(call)(call, job, &mut other)), (0, 0), "{call} refused {:?}", job.table);
         one.adds == other.adds && one.stars == other.stars && one.heads == other.heads && one.sum == other.sum
-            && one.yes == other.yes
+            && one.yes == other.yes && one.lowest == other.lowest && one.counts == other.counts
             && one.table == other.table && one.rows == other.rows && one.cols == other.cols && one.n == other.n
             && one.out == other.out && one.line == other.line
     })
@@ -281,8 +332,6 @@ fn processor_time() -> f64 {
     unsafe { clock_gettime(THREAD, &mut time) };
     time[0] as f64 * 1e6 + time[1] as f64 / 1e3
 }
-
-type Caller = fn(&str, &Job, &mut Room) -> u32;
 
 /// The time of one call, in microseconds, over all jobs `times` times.
 fn once(caller: Caller, call: &str, jobs: &[Job], times: usize, room: &mut Room) -> f64 {
@@ -302,34 +351,31 @@ fn median(mut values: Vec<f64>) -> f64 {
 
 /// How often the jobs are done in one repeat: for two milliseconds.
 fn often(call: &str, jobs: &[Job], room: &mut Room) -> usize {
-    let trial = once(library, call, jobs, 1, room) * jobs.len() as f64;
+    let trial = once(LIBRARY.caller(call), call, jobs, 1, room) * jobs.len() as f64;
     (2000.0 / trial).ceil().max(1.0) as usize
 }
 
 /// The library's time and that of what stands beside it, each the median of repeats that take turns.
-fn measure(beside: Caller, call: &str, jobs: &[Job]) -> (f64, f64) {
+fn measure(beside: &Program, call: &str, jobs: &[Job]) -> (f64, f64) {
     let mut room = Room::new();
     let times = often(call, jobs, &mut room);
     let mut pairs = (Vec::new(), Vec::new());
     for _ in 0..REPEATS {
-        pairs.0.push(once(library, call, jobs, times, &mut room));
-        pairs.1.push(once(beside, call, jobs, times, &mut room));
+        pairs.0.push(once(LIBRARY.caller(call), call, jobs, times, &mut room));
+        pairs.1.push(once(beside.caller(call), call, jobs, times, &mut room));
     }
     (median(pairs.0), median(pairs.1))
 }
 
-/// A line for each call, kind and size: the library's time and the other, if their answers are the same.
-fn print_times(beside: Caller, calls: &[&str]) {
+/// A line for each call, kind and size: the library's time and the other, and a word more if their answers differ.
+fn print_times(beside: &Program, calls: &[&str]) {
     for &call in calls {
         for kind in KINDS {
             for n in SIZES {
                 let jobs = jobs(kind, n);
-                if !agree(beside, call, &jobs) {
-                    println!("{call} {kind} {n} answers differ");
-                    continue;
-                }
+                let word = if agree(beside, call, &jobs) { "" } else { " differ" };
                 let (own, other) = measure(beside, call, &jobs);
-                println!("{call} {kind} {n} {own:.2} {other:.2}");
+                println!("{call} {kind} {n} {own:.2} {other:.2}{word}");
             }
         }
     }
@@ -354,7 +400,7 @@ fn take_turns() {
 /// The stack that a call uses at most: the room below this function's own frame is painted, and after the call the lowest
 /// byte that changed is sought.
 #[inline(never)]
-fn stack_of(call: &str, job: &Job, room: &mut Room) -> usize {
+fn stack_of(caller: Caller, call: &str, job: &Job, room: &mut Room) -> usize {
     const DEPTH: usize = 256 * 1024;
     const OWN: usize = 512;
     let here = 0u8;
@@ -363,7 +409,7 @@ fn stack_of(call: &str, job: &Job, room: &mut Room) -> usize {
         // Safety: the thread's stack reaches far below; no frame is there.
         unsafe { std::ptr::write_volatile(at as *mut u8, 0xA5) };
     }
-    library(call, job, room);
+    caller(call, job, room);
     let untouched = (top - DEPTH..top).take_while(|&at| unsafe { std::ptr::read_volatile(at as *const u8) } == 0xA5);
     DEPTH - untouched.count() + OWN
 }
@@ -374,7 +420,7 @@ fn print_stack() {
         let most = std::thread::Builder::new().stack_size(4 << 20).spawn(move || {
             let mut room = Room::new();
             let all = KINDS.iter().flat_map(|kind| jobs(kind, 32));
-            all.map(|job| stack_of(call, &job, &mut room)).max().expect("some jobs")
+            all.map(|job| stack_of(LIBRARY.caller(call), call, &job, &mut room)).max().expect("some jobs")
         });
         println!("| {call} | {} |", most.expect("a thread").join().expect("no panic"));
     }
@@ -404,24 +450,28 @@ fn print_tables() {
     }
 }
 
+/// The library or the ordinary program.
+fn named(who: &str) -> &'static Program {
+    if who == "library" { &LIBRARY } else { &ORDINARY }
+}
+
 fn main() {
     let words: Vec<String> = std::env::args().skip(1).collect();
     let words: Vec<&str> = words.iter().map(|w| w.as_str()).collect();
     match words[..] {
-        ["times"] => print_times(ordinary_call, &CALLS),
-        ["times", call] => print_times(ordinary_call, &[call]),
+        ["times"] => print_times(&ORDINARY, &CALLS),
+        ["times", call] => print_times(&ORDINARY, &[call]),
         #[cfg(beside)]
-        ["beside"] => print_times(older, &CALLS),
+        ["beside", ref calls @ ..] => print_times(&OLDER, calls),
         ["stack"] => print_stack(),
         ["count", call, kind, n, who] => {
             let jobs = jobs(kind, n.parse().expect("N is a number"));
-            assert!(agree(ordinary_call, call, &jobs));
-            counted(if who == "library" { library } else { ordinary_call }, call, &jobs, &mut Room::new());
+            assert!(agree(&ORDINARY, call, &jobs));
+            counted(named(who).caller(call), call, &jobs, &mut Room::new());
         }
         ["spin", call, kind, n, who] => {
             let jobs = jobs(kind, n.parse().expect("N is a number"));
-            let caller = if who == "library" { library } else { ordinary_call };
-            once(caller, call, &jobs, 20_000, &mut Room::new());
+            once(named(who).caller(call), call, &jobs, 20_000, &mut Room::new());
         }
         ["tables"] => println!("{TABLES}"),
         ["dump"] => print_tables(),

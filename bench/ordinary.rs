@@ -128,6 +128,47 @@ fn heads_of(n: usize, table: &[i16], additions: &[u32; ROWS]) -> [i32; ROWS] {
     heads
 }
 
+/// Of each column the head, the lowest row that holds it, from 1, and how many rows do; all 0 where no order is present.
+pub struct Columns {
+    pub heads: [i32; ROWS],
+    pub rows: [u32; ROWS],
+    pub counts: [u32; ROWS],
+}
+
+fn columns_of(n: usize, table: &[i16], additions: &[u32]) -> Columns {
+    let mut found = Columns { heads: [0; ROWS], rows: [0; ROWS], counts: [0; ROWS] };
+    for i in 0..n {
+        let orders = &table[i * n..i * n + n];
+        for j in 0..n {
+            if orders[j] == ABSENT {
+                continue;
+            }
+            let raised = orders[j] as i32 + additions[i] as i32;
+            if found.counts[j] == 0 || raised > found.heads[j] {
+                found.heads[j] = raised;
+                found.rows[j] = i as u32 + 1;
+                found.counts[j] = 1;
+            } else if raised == found.heads[j] {
+                found.counts[j] += 1;
+            }
+        }
+    }
+    found
+}
+
+/// The heads of columns under additions.
+#[inline(never)]
+pub fn column_heads(n: usize, table: &[i16], given: &[u32]) -> Result<Columns, u32> {
+    check(n, table)?;
+    if given.len() != n {
+        return Err(2);
+    }
+    if given.iter().any(|&a| a > 10_000) {
+        return Err(4);
+    }
+    Ok(columns_of(n, table, given))
+}
+
 /// The column maxima of each row, as bits.
 fn maxima(n: usize, table: &[i16], additions: &[u32; ROWS], heads: &[i32; ROWS]) -> [u32; ROWS] {
     let mut bits = [0u32; ROWS];
@@ -471,9 +512,11 @@ pub fn print(sheet: &[u8], out: &mut Vec<u8>) {
     let n = sheet.n;
     match solve(n, &sheet.table[..n * n]) {
         Ok(answer) => {
+            let ties = columns_of(n, &sheet.table[..n * n], &answer.additions).counts;
             put_section(out, b"adds ", answer.additions[..n].iter().map(|&a| a as i32));
             put_section(out, b"stars ", answer.stars[..n].iter().map(|&j| j as i32));
             put_section(out, b"heads ", answer.heads[..n].iter().copied());
+            put_section(out, b"ties ", ties[..n].iter().map(|&c| c as i32));
             put_section(out, b"sum ", [answer.sum].into_iter());
             put_section(out, b"index ", answer.additions[..n].iter().max().map(|&a| a as i32).into_iter());
         }

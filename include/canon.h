@@ -117,7 +117,7 @@ uint32_t canon_is_simplest(size_t n,
 /* Which rows share a maximum: for each column, under any n additions given (zeros: the table as it stands), its head, the
  * lowest row (from 1) that holds it, and how many rows do; 0, 0 and 0 in a column with no present order. table has n * n
  * elements; given, heads, rows and counts n each. Whether a complete transversal exists is not asked. Heads are -100 to
- * 10,100 here. Returns 0, 1, 2, 3 or 4; on a refusal heads, rows and counts hold what they held. */
+ * 10,100 here. Returns 0, 1, 2, 3 or 4. */
 uint32_t canon_column_heads(size_t n,
                             const int16_t *table, size_t table_len,
                             const uint32_t *given, size_t given_len,

@@ -3,7 +3,7 @@
 
     python3 tests/program_sheets.py FOLDER
 
-Additions, stars, heads and ties come from route_vectors.py, which works them out from document 01's definitions and checks them; the
+Additions, stars, heads and ties come from route_vectors.py, which works them out from the definitions of documents 01 and 02 and checks them; the
 sheets and the printed pages are joined here from their lines. Nothing is shared with the crates.
 """
 import os

@@ -1,7 +1,7 @@
 #!/usr/bin/env python3
 """Writes crates/route_vectors/stdin (the vectors of the public calls on tables) and crates/route_vectors/stdout (what is expected).
 
-The expected answers come straight from document 01's definitions and share no code with the crates. Nothing here grows trees or
+The expected answers come straight from the definitions of documents 01 and 02 and share no code with the crates. Nothing here grows trees or
 lowers additions: a transversal of greatest sum is found (up to N = 7 by trying every transversal, above that by longest
 augmenting paths), the additions are what its places need to be column maxima, and then each answer is checked against the
 definitions:
@@ -543,7 +543,7 @@ PRINTED = {
 
 
 def check_printed(expected):
-    """What documents 000 to 003 and 01 print is what was worked out here."""
+    """What documents 000 to 003 and 01 print, and what four columns are by document 02's words, is what was worked out here."""
     answers = dict(zip(expected[::2], expected[1::2]))
     for title, words in PRINTED.items():
         assert (answers[title] + ",").startswith(words + ","), (title, words, answers[title])

@@ -51,8 +51,7 @@ impl Table {
     /// Document 02's fuller answer, by looking at every row; all 0 in a column with no present order.
     pub fn column_head(&self, additions: &[u32], j: usize) -> ColumnHead {
         let Some(head) = self.head(additions, j) else { return ColumnHead { head: 0, row: 0, count: 0 } };
-        let holds = |i: &usize| self.order(*i, j).is_some_and(|order| order + additions[*i] as i32 == head);
-        let holders: Vec<usize> = (0..self.n).filter(holds).collect();
+        let holders: Vec<usize> = (0..self.n).filter(|&i| self.reaches(additions, head, i, j)).collect();
         ColumnHead { head, row: holders[0] as u32 + 1, count: holders.len() as u32 }
     }
 
@@ -62,7 +61,12 @@ impl Table {
 
     /// Is the place a column maximum?
     pub fn maximum(&self, additions: &[u32], heads: &[i32], i: usize, j: usize) -> bool {
-        self.order(i, j).is_some_and(|order| order + additions[i] as i32 == heads[j])
+        self.reaches(additions, heads[j], i, j)
+    }
+
+    /// Is the place present and, raised, the head?
+    fn reaches(&self, additions: &[u32], head: i32, i: usize, j: usize) -> bool {
+        self.order(i, j).is_some_and(|order| order + additions[i] as i32 == head)
     }
 
     /// The total of a transversal's orders as they stand; nothing if one is absent.

@@ -61,7 +61,8 @@ module _ (n : ℕ) (t : List ℤ) where
             };
         routes-lowest = λ start b j k. first-lowest (tests n t start b) j k (rises start b);
         verdict-lowest = λ given j k. first-lowest (verdict-tests n t given) j k (canon-rises n t given (length given ∷ []));
-        heads-lowest = λ given b j k. first-lowest (heads-tests-of n t given b) j k (heads-rises n t given (head-lengths given (b .heads) (b .rows) (b .counts)));
+        heads-lowest = λ given b j k.
+            first-lowest (heads-tests-of n t given b) j k (heads-rises n t given (head-lengths given (b .heads) (b .rows) (b .counts)));
       }
 
   -- what a route that answers wrote, and that what was handed to it leads

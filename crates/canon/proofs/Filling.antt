@@ -1,9 +1,9 @@
 -- The promise of the heads of all columns: from what the tests told and the search found. Assumes nothing.
-use mathlib.Core.Path.{_≡_, refl, sym, _∙_, ap}
+use mathlib.Core.Path.{_≡_, refl, _∙_, ap}
 use mathlib.Core.Logic.{inl}
 use mathlib.Core.Bool.{Bool, true, false}
-use mathlib.Core.List.{List, [], _∷_}
-use Prim.Native.Nat.{ℕ, _≤_, _<_}
+use mathlib.Core.List.{List}
+use Prim.Native.Nat.{ℕ, _<_}
 use native.Mathlib.Omega.{arith}
 use lib.IntN.{ℤ, pos}
 use lib.ListN.{length, take}
@@ -38,7 +38,8 @@ module _ (n : ℕ) (t : List ℤ) (given : List ℕ) (heads : List ℤ) (rows co
       → ColumnHeads n t given heads rows counts (Refused q) heads rows counts
   leave-first b q e =
       let p = b .refused q e in
-      leaves (numberOf q) (first-of-all n t (head-lengths given heads rows counts) (heads-more given) (numberOf q) (p .0)) (ap (refuses (numberOf q)) (p .1)) refl refl refl
+      leaves (numberOf q) (first-of-all n t (head-lengths given heads rows counts) (heads-more given) (numberOf q) (p .0))
+      (ap (refuses (numberOf q)) (p .1)) refl refl refl
 
   module _ (s : Sound n t (head-lengths given heads rows counts)) {b : Bool} (a : WithinAs given b) where
     -- and by the fourth

@@ -14,9 +14,9 @@ use Rattle.theory.proofs.Unique.{solution-once}
 use Rattle.theory.proofs.Ties.{column-head-once}
 use Rattle.orders.specs.Refusals.{numberOf, valuesOf, Test, gives}
 use Rattle.orders.proofs.Refusals.{first-clear, refused-once, refusal-once, given-once, not-both}
-use Rattle.handed.specs.Conditions.{canon-tests}
+use Rattle.handed.specs.Conditions.{canon-tests, heads-tests}
 use Rattle.canon.specs.Answers.{said, judged, told}
-use Rattle.canon.specs.Promises.{Routed, refused, answered, Judges, declines, says-yes, says-no, column-tests, ColumnHeads, leaves, fills}
+use Rattle.canon.specs.Promises.{Routed, refused, answered, Judges, declines, says-yes, says-no, head-lengths, ColumnHeads, leaves, fills}
 use Rattle.canon.specs.declared.Answer.{Answer}
 use Rattle.canon.specs.declared.Answer.the-variants.{Sum, Refused}
 use Rattle.canon.specs.declared.Verdict.{Verdict}
@@ -126,13 +126,13 @@ module _ (n : ℕ) (t : List ℤ) (given : List ℕ) (heads : List ℤ) (rows co
       → ColumnHeads n t given heads rows counts s k b d → OneFilling r s h k a b c d
   column-heads-once {r} {s} (leaves i p u x y z) (leaves j q v x′ y′ z′) =
       record {
-        answer = filled-once r s (refused-once (column-tests n t given heads rows counts) p u q v);
+        answer = filled-once r s (refused-once (heads-tests n t given (head-lengths given heads rows counts)) p u q v);
         same-heads = x ∙ sym x′;
         same-rows = y ∙ sym y′;
         same-counts = z ∙ sym z′;
       }
-  column-heads-once (leaves i p u x y z) (fills q v lh lr lc f) = absurd (first-clear (column-tests n t given heads rows counts) i p q)
-  column-heads-once (fills q v lh lr lc f) (leaves i p u x y z) = absurd (first-clear (column-tests n t given heads rows counts) i p q)
+  column-heads-once (leaves i p u x y z) (fills q v lh lr lc f) = absurd (first-clear (heads-tests n t given (head-lengths given heads rows counts)) i p q)
+  column-heads-once (fills q v lh lr lc f) (leaves i p u x y z) = absurd (first-clear (heads-tests n t given (head-lengths given heads rows counts)) i p q)
   column-heads-once {r} {s} {h} {k} {a} {b} {c} {d} (fills p u lh lr lc f) (fills q v lh′ lr′ lc′ g) =
       record {
         answer = filled-once r s (u ∙ sym v);

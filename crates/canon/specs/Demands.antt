@@ -1,6 +1,6 @@
 -- The customer's demands 1 to 3, about the promises of the public calls and not about the code: one record a demand, of a table t of n
--- rows, each field under the sentence that it renders. Then two sentences of document 01 about all calls. (What the demands say of
--- sheets stands in the crate sheet_round.)
+-- rows, each field under the sentence that it renders. Then two sentences of document 01 about all calls, and request 1 of document 02.
+-- (What the demands say of sheets stands in the crate sheet_round.)
 use mathlib.Core.Path.{_≡_}
 use mathlib.Core.Logic.{_≢_}
 use mathlib.Core.Bool.{true, false}
@@ -15,9 +15,9 @@ use Rattle.theory.specs.Table.{entry, Entries}
 use Rattle.theory.specs.Canon.{SomeTransversal, NoTransversal, raised, Canon, Simplest, Heads, LowestHolder, EmptyColumn, Ties, Stars, Balance}
 use Rattle.theory.specs.Cases.{Handed, nothing, additions, stars, Answerable}
 use Rattle.orders.specs.Refusals.{Test, Applies, First, Among, due, Proper, gives, refuses}
-use Rattle.handed.specs.Conditions.{TooLarge, WrongStars, NoCanon, NotGreatest, table-tests, canon-tests, star-tests}
+use Rattle.handed.specs.Conditions.{TooLarge, WrongStars, NoCanon, NotGreatest, table-tests, canon-tests, heads-tests, star-tests}
 use Rattle.canon.specs.Answers.{said, judged, told}
-use Rattle.canon.specs.Promises.{Solves, FromCanon, FromStars, Judges, ColumnHeads, column-tests}
+use Rattle.canon.specs.Promises.{Solves, FromCanon, FromStars, Judges, head-lengths, ColumnHeads}
 use Rattle.canon.specs.declared.Answer.{Answer}
 use Rattle.canon.specs.declared.Verdict.{Verdict}
 use Rattle.canon.specs.declared.Filled.{Filled}
@@ -49,7 +49,7 @@ abbrev pub FillsHeads : ℕ → List ℤ → List ℕ → HeadBuffers → Filled
 FillsHeads n t given b r b′ = ColumnHeads n t given (b .heads) (b .rows) (b .counts) r (b′ .heads) (b′ .rows) (b′ .counts)
 
 abbrev pub heads-tests-of : ℕ → List ℤ → List ℕ → HeadBuffers → List Test
-heads-tests-of n t given b = column-tests n t given (b .heads) (b .rows) (b .counts)
+heads-tests-of n t given b = heads-tests n t given (head-lengths given (b .heads) (b .rows) (b .counts))
 
 -- "a well-formed table"
 pub record WellFormed (n : ℕ) (t : List ℤ) : Type 0 where
@@ -176,6 +176,7 @@ pub record Numbered (n : ℕ) (t : List ℤ) : Type 0 where
       → Among (numbers-of start) k
   pub verdict : (given : List ℕ) (v : Verdict) (k : ℕ) (values : List ℕ) → Judges n t given v → judged v ≡ refuses k values
       → Among (numbers-of (additions given)) k
+  -- `column_heads` tests size, lengths, entries and additions alone, and so gives no other
   pub heads : (given : List ℕ) (b b′ : HeadBuffers) (r : Filled) (k : ℕ) (values : List ℕ) → FillsHeads n t given b r b′ → told r ≡ refuses k values
       → Among (1 ∷ 2 ∷ 3 ∷ 4 ∷ []) k
 

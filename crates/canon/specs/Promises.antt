@@ -48,20 +48,17 @@ pub data Judges (n : ℕ) (t : List ℤ) (given : List ℕ) (r : Verdict) : Type
   says-no : Clear (canon-tests n t given (length given ∷ [])) → judged r ≡ gives false → (Simplest n (entry t n) (nums given) → ⊥)
       → Judges n t given r
 
--- what the finding of all heads tests: the slices are to have n elements each
+-- the slices that the finding of all heads is lent, which are to have n elements each
 abbrev pub head-lengths : List ℕ → List ℤ → List ℕ → List ℕ → List ℕ
 head-lengths given heads rows counts = length given ∷ length heads ∷ length rows ∷ length counts ∷ []
-
-abbrev pub column-tests : ℕ → List ℤ → List ℕ → List ℤ → List ℕ → List ℕ → List Test
-column-tests n t given heads rows counts = heads-tests n t given (head-lengths given heads rows counts)
 
 -- Document 02, request 1: "Finding a column's head must also tell the lowest row that holds it and how many rows do." Of every column, with
 -- the additions given: either a refusal that concerns the call applies, the first is returned, and the lent slices hold what they held;
 -- or none does, and they hold head, row (numbered from 1) and count of each column.
 pub data ColumnHeads (n : ℕ) (t : List ℤ) (given : List ℕ) (heads : List ℤ) (rows counts : List ℕ) (r : Filled) (heads′ : List ℤ) (rows′ counts′ : List ℕ)
     : Type 0 where
-  leaves : (k : ℕ) → First (column-tests n t given heads rows counts) k → told r ≡ refuses k [] → heads′ ≡ heads → rows′ ≡ rows → counts′ ≡ counts
-      → ColumnHeads n t given heads rows counts r heads′ rows′ counts′
-  fills : Clear (column-tests n t given heads rows counts) → told r ≡ gives tt → length heads′ ≡ n → length rows′ ≡ n → length counts′ ≡ n
+  leaves : (k : ℕ) → First (heads-tests n t given (head-lengths given heads rows counts)) k → told r ≡ refuses k [] → heads′ ≡ heads → rows′ ≡ rows
+      → counts′ ≡ counts → ColumnHeads n t given heads rows counts r heads′ rows′ counts′
+  fills : Clear (heads-tests n t given (head-lengths given heads rows counts)) → told r ≡ gives tt → length heads′ ≡ n → length rows′ ≡ n → length counts′ ≡ n
       → ((j : ℕ) → j < n → ColumnHead n (entry t n) (nums given) j (ints heads′ j) (nums rows′ j) (nums counts′ j))
       → ColumnHeads n t given heads rows counts r heads′ rows′ counts′

@@ -215,11 +215,11 @@ pub fn column_heads(
     }
     let additions = held(given);
     let tops = orders::heads(table, n, &additions);
-    let h = tops.heads;
-    let r = tops.rows;
-    let c = tops.counts;
-    copy_heads(h, heads);
-    copy_numbers(r, rows);
-    copy_numbers(c, counts);
+    let largest = tops.heads;
+    let lowest = tops.rows;
+    let ties = tops.counts;
+    copy_heads(largest, heads);
+    copy_numbers(lowest, rows);
+    copy_numbers(ties, counts);
     Filled::Done
 }

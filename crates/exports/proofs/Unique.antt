@@ -22,7 +22,7 @@ use Rattle.printing.specs.Promise.{PrintPromise}
 use Rattle.printing.specs.Promise as printing
 use Rattle.printing.specs.declared.Printed.{Printed}
 use Rattle.printing.proofs.Unique.{print-once}
-use Rattle.telling.specs.Telling.{Returns, gave, kept-back, itself, nothing, bit, ReturnsRead, read, at-line, refused}
+use Rattle.telling.specs.Telling.{Returns, gave, kept-back, itself, no-result, bit, ReturnsRead, read, at-line, refused}
 use Rattle.exports.specs.Told.{Told, ToldRead}
 
 -- what an answer is returned as
@@ -65,8 +65,8 @@ verdict-once {n} {t} {given} f g = told-once f g (judges-once n t given (f .prom
 
 -- The heads of all columns: what is returned, and the three lists.
 pub filling-once : {n : ℕ} {t : List ℤ} {given rows counts a b c d : List ℕ} {heads e f : List ℤ} {r q : ℕ}
-    → Told (λ (x : Filled). ColumnHeads n t given heads rows counts x e a c) told itself r nothing nothing
-    → Told (λ (x : Filled). ColumnHeads n t given heads rows counts x f b d) told itself q nothing nothing
+    → Told (λ (x : Filled). ColumnHeads n t given heads rows counts x e a c) told itself r no-result no-result
+    → Told (λ (x : Filled). ColumnHeads n t given heads rows counts x f b d) told itself q no-result no-result
     → (r ≡ q) × (e ≡ f) × (a ≡ b) × (c ≡ d)
 filling-once {n} {t} {given} {rows} {counts} {heads = heads} f g =
     let o = column-heads-once n t given heads rows counts (f .promised) (g .promised) in

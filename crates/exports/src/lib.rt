@@ -12,7 +12,7 @@ ghost use Rattle.writer.specs.declared.Written.{Written};
 ghost use Rattle.printing.specs.Promise.{PrintPromise};
 ghost use Rattle.printing.specs.Promise as printing;
 ghost use Rattle.printing.specs.declared.Printed.{Printed};
-ghost use Rattle.telling.specs.Telling.{itself, nothing, bit};
+ghost use Rattle.telling.specs.Telling.{itself, no-result, bit};
 ghost use Rattle.exports.specs.Told.{Told, ToldRead};
 use telling::tell_filled;
 use telling::tell_printed;
@@ -116,7 +116,7 @@ pub extern "C" fn canon_column_heads(
         (λ (a : Filled).
         ColumnHeads n (now (table .entry)) (now (given .entry)) (now (heads .entry)) (now (rows .entry)) (now (counts .entry)) a
         (now (heads .exit)) (now (rows .exit)) (now (counts .exit)))
-        told itself r nothing nothing
+        told itself r no-result no-result
         ⌝ }
 {
     let answer = canon::column_heads(n, table, given, heads, rows, counts);

@@ -17,7 +17,7 @@ use Rattle.theory.specs.Canon.{raised, EmptyColumn, LowestHolder, Holders, Colu
 use Rattle.theory.proofs.Signed.{signed, plus}
 use Rattle.theory.proofs.Counts.{count-most}
 use Rattle.theory.proofs.Decisions.{present-known, less-known, not-less}
-use Rattle.theory.proofs.Ties.{new-holder, new-count, old-holder, count-more, count-kept}
+use Rattle.theory.proofs.Ties.{upto, new-holder, new-count, old-holder, count-more, count-kept}
 use Rattle.orders.specs.Places.{TopOf, Higher, Lowest, Counted}
 use Rattle.orders.specs.declared.Top.{Top}
 use Rattle.orders.proofs.Entries.{present-above}
@@ -94,8 +94,7 @@ module _ (t : List ℤ) (n k : ℕ) (l : List ℕ) (j : ℕ) (fits : SFits w16 (
     where
       go : Sought t n k l j h row c → Sought t n (suc k) l j h row c
       go (none-yet f e z) =
-          none-yet (λ x hx p. elim (ℕ-discrete x k) [ yes q ↦ omega (arith, signed, e, over (rw q at p), lt (rw q at p)) | no ne ↦ f x (omega arith) p ])
-          e z
+          none-yet (upto (entry t n) (nums l) j k {P = λ x. Present (entry t n x j) → ⊥} f (λ p. omega (arith, signed, e, over p, lt p))) e z
       go (some up u e s) =
           let below : Present (entry t n k j) → height t n l j k <ℤ height t n l j row = λ p. omega (arith, signed, e, lt p) in
           let under : Present (entry t n k j) → height t n l j k ≤ℤ height t n l j row = λ p. omega (arith, signed, below p) in

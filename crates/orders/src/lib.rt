@@ -174,8 +174,8 @@ fn counted(count: u32, height: i32, entry: i16, addition: u32) -> u32
 }
 
 // Head, lowest row and count of column j with the additions given. The height begins below every raised order, and is still there where
-// the column has none; the row is counted from 0 until then. Row and count have functions of their own, so that a caller who asks for
-// the head alone has them dropped by the compiler. Rules out a head that no order reaches or that one exceeds, another row than
+// the column has none; in the loop the row is counted from 0. Row and count have functions of their own, so that the compiler drops
+// them where a caller asks for the head alone. Rules out a head that no order reaches or that one exceeds, another row than
 // the lowest that holds it, a tie left out, and anything but 0 in a column with no order.
 pub fn head(table: &[i16], n: usize, additions: &[u32; ROWS], j: usize) -> Top
     requires { ⌜ Square (now table) n × (j < n) × UnderCeiling n (now additions) ⌝ }

@@ -3,11 +3,20 @@ use mathlib.Core.Path.{_≡_, sym, ap, _∙_}
 use mathlib.Core.List.{List, []}
 use Prim.Native.Nat.{ℕ}
 use native.Mathlib.Omega.{arith}
+use lib.IntN.{ℤ}
 use lib.ListN.{length}
-use Rattle.orders.specs.Refusals.{Said, refuses}
+use Rattle.theory.specs.Table.{entry}
+use Rattle.theory.proofs.Counts.{count-once}
+use Rattle.theory.proofs.Ties.{head-holders}
+use Rattle.orders.specs.Refusals.{Said, gives, refuses}
 use Rattle.orders.proofs.Refusals.{same-number, not-both}
-use Rattle.page.specs.Printed.{printed}
-use Rattle.printing.specs.Promise.{PrintPromise, no-room, wrote}
+use Rattle.canon.specs.Answers.{told}
+use Rattle.canon.specs.Demands.{HeadBuffers, FillsHeads}
+use Rattle.canon.specs.declared.Filled.{Filled}
+use Rattle.canon.proofs.Unique.{same-list}
+use Rattle.canon.proofs.Ties.{heads-told, heads-same}
+use Rattle.page.specs.Printed.{Figures, printed}
+use Rattle.printing.specs.Promise.{FiguresOf, PrintPromise, no-room, wrote}
 use Rattle.printing.specs.Demands.{printing-due, PrintingCall}
 use Rattle.printing.proofs.Fits.{answers-fit}
 use Rattle.printing.proofs.Unique.{sheet-once, print-once}
@@ -23,6 +32,14 @@ module _ (s room room′ : List ℕ) (r : Said ℕ) where
       let (same, none) = same-number 12 k [] vs (sym e ∙ f) in (b, g, l, same, none)
   printing-only-due k vs (wrote b g l e is) f = not-both (length (printed b)) k vs (sym e ∙ f)
 
+module _ (n : ℕ) (t : List ℤ) (f : Figures) (b b′ : HeadBuffers) (r : Filled) where
+  shared-columns : FiguresOf n t f → FillsHeads n t (f .adds) b r b′ → told r ≡ gives tt → (b′ .heads ≡ f .heads) × (b′ .counts ≡ f .ties)
+  shared-columns p q e =
+      let w = heads-told b b′ q e in (
+        heads-same w (f .heads) (p .heads-long) (p .solution .heads),
+        same-list 0 (b′ .counts) (f .ties) (w .counts-long) (p .ties-long) (λ j hj. count-once (head-holders n (entry t n) (w .tops j hj)) (p .is-ties j hj)),
+      )
+
 pub printing-call : PrintingCall
 printing-call =
     record {
@@ -33,4 +50,5 @@ printing-call =
             only-due = λ k vs r room′. printing-only-due s room room′ _ k vs;
           };
       roomy = answers-fit;
+      columns = shared-columns;
     }

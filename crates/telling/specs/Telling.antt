@@ -16,8 +16,8 @@ abbrev pub itself : {X : Type 0} → X → X
 itself x = x
 
 -- what the single result of a call holds that has none
-abbrev pub nothing : Unit {0}
-nothing = tt
+abbrev pub no-result : Unit {0}
+no-result = tt
 
 -- 1 or 0
 abbrev pub bit : Bool → ℕ

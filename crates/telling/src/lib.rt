@@ -2,7 +2,7 @@ ghost use Rattle.canon.specs.Answers.{said, judged, told};
 ghost use Rattle.reader.specs.Promise as reader;
 ghost use Rattle.writer.specs.Promise as writer;
 ghost use Rattle.printing.specs.Promise as printing;
-ghost use Rattle.telling.specs.Telling.{Returns, ReturnsRead, itself, nothing, bit};
+ghost use Rattle.telling.specs.Telling.{Returns, ReturnsRead, itself, no-result, bit};
 use canon::Answer;
 use canon::Filled;
 use canon::Verdict;
@@ -44,7 +44,7 @@ pub fn tell_verdict(verdict: Verdict, yes: &mut u8) -> u32
 
 // The heads of all columns, which have no single result. Rules out a refusal told as success, and another number than the refusal's.
 pub fn tell_filled(answer: Filled) -> u32
-    ensures { λ r. ⌜ Returns itself (told answer) r nothing nothing ⌝ }
+    ensures { λ r. ⌜ Returns itself (told answer) r no-result no-result ⌝ }
 {
     match answer {
         Filled::Done => 0,

@@ -7,18 +7,18 @@ use mathlib.Core.Bool.{Bool, true, false, not, _&&_, _||_}
 use mathlib.Core.List.{List, [], _∷_}
 use Prim.Native.Nat.{ℕ, zero, suc, _*_, _<_}
 use native.Mathlib.Omega.{arith}
-use lib.Dec.{T, eqb, leb, ltb, eqb→eq, eqb-refl, leb→le, lt→ltb, T-not, not-T}
+use lib.Dec.{T, eqb, leb, ltb, eqb→eq, eqb-refl, leb→le, ltb→lt, lt→ltb, T-not, not-T}
 use lib.IntN.{ℤ, pos, negℤ}
 use lib.ListN.{length, getD}
 use lib.Signed.{_≤ℤ_, leZ, ltZ, leZ-yes, ltZ-yes, ≤ℤ-refl}
-use Rattle.theory.specs.Totals.{total}
+use Rattle.theory.specs.Totals.{total, Count, none, one-more, passed-over}
 use Rattle.theory.specs.Limits.{row-limit, order-limit, addition-limit}
 use Rattle.theory.specs.Lists.{nums, ints, flags, columns, StarList}
 use Rattle.theory.specs.Table.{absent, Present, Order, entry}
-use Rattle.theory.specs.Canon.{Transversal, SomeTransversal, NoTransversal, raised, Maximum, OfMaxima, Canon, Heads, Before, sum}
+use Rattle.theory.specs.Canon.{Transversal, SomeTransversal, NoTransversal, raised, Maximum, OfMaxima, Canon, Heads, ColumnHead, held, empty, Before, sum}
 use Rattle.theory.specs.Canon.{Misplaced, exceeded, Solution}
 use Rattle.theory.specs.Cases.{Handed, nothing, additions, stars, Outcome, answer, refusal6, refusal7, refusal8}
-use Rattle.theory.specs.Cases.{Case, Answerable, RefusedBy7, RefusedBy8, Comes, Right, Every, cases}
+use Rattle.theory.specs.Cases.{Case, Answerable, RefusedBy7, RefusedBy8, Comes, Right, Every, cases, ColumnCase, EveryColumns, column-cases}
 use Rattle.theory.specs.Paths.{itself}
 use Rattle.theory.proofs.Pigeonhole.{onto}
 use Rattle.theory.proofs.Signed.{signed}
@@ -426,3 +426,78 @@ pub cases-right : Every Right cases
 unfolding tests test case-tests within order-within comes answerable refused-canon refused-stars answer-tests star-tests levels next
     preceded before surpassed more canon transversal any maximum implies present same total guard every all some listed fresh search found
 cases-right = all-right cases tt
+
+-- ---- the worked columns of request 1
+-- how many of the numbers below n pass a test
+one-if : Bool → ℕ → ℕ
+one-if true c = suc c
+one-if false c = c
+
+counted : ℕ → (ℕ → Bool) → ℕ
+counted zero f = 0
+counted (suc n) f = one-if (f n) (counted n f)
+
+-- a test that tells of a property counts what has it
+counted-told : {P : ℕ → Type 0} (f : ℕ → Bool) → ((i : ℕ) → T (f i) → P i) → ((i : ℕ) → P i → T (f i)) → (n : ℕ) → Count P n (counted n f)
+unfolding counted one-if
+counted-told f told tells zero = none
+counted-told {P} f told tells (suc n) = go (counted-told f told tells n) (f n) refl
+  where
+    go : {c : ℕ} → Count P n c → (b : Bool) → f n ≡ b → Count P (suc n) (one-if (f n) c)
+    go s true e = rw e (one-more s (told n (rw e tt)))
+    go s false e = rw e (passed-over s (λ p. rw e at (tells n p)))
+
+module _ (n : ℕ) (a : ℕ → ℕ → ℤ) (l : ℕ → ℕ) (j : ℕ) where
+  -- the row is 0: no order is present, and all is 0; or it is the lowest with a maximum, with the head and the count
+  column-tests : ℤ → ℕ → ℕ → List Bool
+  column-tests h zero c = all n (λ i. not (present (a i j))) ∷ same h (pos 0) ∷ eqb c 0 ∷ []
+  column-tests h (suc i) c =
+      ltb i n
+      ∷ maximum n a l i j
+      ∷ all i (λ k. not (maximum n a l k j))
+      ∷ same h (raised n a l i j)
+      ∷ eqb c (counted n (λ k. maximum n a l k j))
+      ∷ []
+
+  column-told : (h : ℤ) (row c : ℕ) → T (every (column-tests h row c)) → ColumnHead n a l j h row c
+  unfolding column-tests
+  column-told h zero c t =
+      let told = every-told (column-tests h zero c) t in
+      empty (λ i hi p. T-not (present (a i j)) (all-told n (λ i. not (present (a i j))) (told 0) i hi) (present-tells (a i j) p))
+      (same-told h (pos 0) (told 1)) refl (eqb→eq c 0 (told 2))
+  column-told h (suc i) c t =
+      let told = every-told (column-tests h (suc i) c) t in
+      held i
+      (record {
+        inside = ltb→lt i n (told 0);
+        maximum = maximum-told n a l i j (told 1);
+        lowest = λ k hk m. T-not (maximum n a l k j) (all-told i (λ k. not (maximum n a l k j)) (told 2) k hk) (maximum-tells n a l k j m);
+      })
+      (same-told h (raised n a l i j) (told 3)) (omega arith)
+      (rw (eqb→eq c (counted n (λ k. maximum n a l k j)) (told 4))
+      (counted-told (λ k. maximum n a l k j) (λ k. maximum-told n a l k j) (λ k. maximum-tells n a l k j) n))
+
+-- the columns of a case, and the columns of all
+columns-test : ColumnCase → Bool
+columns-test c =
+    all (c .size) (λ j.
+    every (column-tests (c .size) (entry (c .table) (c .size)) (nums (c .adds)) j (ints (c .heads) j) (nums (c .rows) j) (nums (c .counts) j)))
+
+columns-tests : List ColumnCase → Bool
+columns-tests [] = true
+columns-tests (c ∷ cs) = columns-test c && columns-tests cs
+
+columns-told : (cs : List ColumnCase) → T (columns-tests cs) → EveryColumns cs
+unfolding columns-tests columns-test
+columns-told [] t = tt
+columns-told (c ∷ cs) t =
+    let (p, q) = both (columns-test c) (columns-tests cs) t in (
+      λ j hj. column-told (c .size) (entry (c .table) (c .size)) (nums (c .adds)) j (ints (c .heads) j) (nums (c .rows) j) (nums (c .counts) j)
+          (all-told (c .size) _ p j hj),
+      columns-told cs q,
+    )
+
+-- every worked column is right: the test of the whole list is computed here
+pub columns-right : EveryColumns column-cases
+unfolding columns-tests columns-test column-tests counted one-if maximum implies present same every all
+columns-right = columns-told column-cases tt

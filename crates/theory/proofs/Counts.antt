@@ -1,7 +1,6 @@
 -- Counts of the numbers below n that have a property. Assumes nothing.
 use mathlib.Core.Path.{_≡_, refl, ap}
-use mathlib.Core.Logic.{_⊎_, inl, inr}
-use Prim.Native.Nat.{ℕ, zero, suc, _+_, _≤_, _<_}
+use Prim.Native.Nat.{ℕ, zero, suc, _≤_, _<_}
 use native.Mathlib.Decide.{ℕ-discrete}
 use native.Mathlib.Omega.{arith}
 use Rattle.theory.specs.Totals.{Count, none, one-more, passed-over}
@@ -22,22 +21,16 @@ count-same (suc n) to back (one-more p x) =
 count-same (suc n) to back (passed-over p x) =
     passed-over (count-same n (λ i hi. to i (omega arith)) (λ i hi. back i (omega arith)) p) (λ q. x (back n (omega arith) q))
 
--- nothing is counted exactly where nothing has the property
+-- where nothing has the property, nothing is counted
 pub count-none : {P : ℕ → Type 0} (n : ℕ) → ((i : ℕ) → i < n → P i → ⊥) → Count P n 0
 count-none zero f = none
 count-none (suc n) f = passed-over (count-none n (λ i hi. f i (omega arith))) (f n (omega arith))
 
--- what has the property is counted
+-- where something has it, something is counted
 pub count-some : {P : ℕ → Type 0} (n : ℕ) {c : ℕ} → Count P n c → (i : ℕ) → i < n → P i → 1 ≤ c
 count-some (suc n) (one-more p x) i hi y = omega arith
 count-some {P} (suc n) (passed-over p x) i hi y =
     elim (ℕ-discrete i n) [ yes e ↦ absurd (x (rw e at y)) | no ne ↦ count-some n p i (omega arith) y ]
-
--- where something is counted, something has the property
-pub counted : {P : ℕ → Type 0} (n : ℕ) {c : ℕ} → Count P n c → 1 ≤ c → (i : ℕ) × (i < n) × P i
-counted zero none h = absurd (omega arith)
-counted (suc n) (one-more p x) h = (n, omega arith, x)
-counted (suc n) (passed-over p x) h = let (i, hi, y) = counted n p h in (i, omega arith, y)
 
 -- no more is counted than there is
 pub count-most : {P : ℕ → Type 0} (n : ℕ) {c : ℕ} → Count P n c → c ≤ n

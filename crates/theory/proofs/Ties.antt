@@ -7,25 +7,27 @@ use native.Mathlib.Omega.{arith}
 use lib.IntN.{ℤ, pos, negℤ, _+ℤ_}
 use lib.Signed.{_≤ℤ_, _<ℤ_, ≤ℤ-refl}
 use Rattle.theory.specs.Table.{Present, WithinLimit}
-use Rattle.theory.specs.Totals.{Count, none, one-more, passed-over}
+use Rattle.theory.specs.Totals.{one-more, passed-over}
 use Rattle.theory.specs.Canon.{AtMost, NoTransversal, raised, Maximum, Canon, Head, LowestHolder, Holders, EmptyColumn, ColumnHead, held, empty, Ties}
 use Rattle.theory.proofs.Signed.{signed, plus, below-zero}
 use Rattle.theory.proofs.Counts.{count-once, count-same, count-none, count-some}
 use Rattle.theory.proofs.Pigeonhole.{onto}
 use Rattle.theory.proofs.Decisions.{present-known, less-known, not-less}
 use Rattle.theory.proofs.Unique.{Same, maximum-same}
+use Rattle.theory.proofs.Bounds.{head-low}
 
 -- ---- row k taken in after the rows below k
 module _ (a : ℕ → ℕ → ℤ) (l : ℕ → ℕ) (j k : ℕ) where
-  abbrev Order : ℕ → ℤ
-  Order x = raised k a l x j
+  -- the raised order of a row
+  abbrev Height : ℕ → ℤ
+  Height x = raised k a l x j
 
-  -- the rows below k+1 are the rows below k and row k
-  upto : {P : ℕ → Type 0} → ((x : ℕ) → x < k → P x) → P k → (x : ℕ) → x < suc k → P x
+  -- the rows below k + 1 are the rows below k and row k
+  pub upto : {P : ℕ → Type 0} → ((x : ℕ) → x < k → P x) → P k → (x : ℕ) → x < suc k → P x
   upto {P} below here x hx = elim (ℕ-discrete x k) [ yes e ↦ rw e here | no ne ↦ below x (omega arith) ]
 
   -- Row k is present, and above every row before it: it alone holds the head.
-  module _ (here : Present (a k j)) (above : (x : ℕ) → x < k → Present (a x j) → Order x <ℤ Order k) where
+  module _ (here : Present (a k j)) (above : (x : ℕ) → x < k → Present (a x j) → Height x <ℤ Height k) where
     none-before : (x : ℕ) → x < k → Maximum (suc k) a l x j → ⊥
     none-before x hx m = omega (arith, signed, above x hx (m .present), m .unexceeded k (omega arith) here)
 
@@ -33,7 +35,7 @@ module _ (a : ℕ → ℕ → ℤ) (l : ℕ → ℕ) (j k : ℕ) where
     new-maximum =
         record {
           present = here;
-          unexceeded = upto {P = λ x. Present (a x j) → Order x ≤ℤ Order k} (λ x hx p. omega (arith, signed, above x hx p)) (λ p. ≤ℤ-refl (Order k));
+          unexceeded = upto {P = λ x. Present (a x j) → Height x ≤ℤ Height k} (λ x hx p. omega (arith, signed, above x hx p)) (λ p. ≤ℤ-refl (Height k));
         }
 
     pub new-holder : LowestHolder (suc k) a l j k
@@ -43,12 +45,12 @@ module _ (a : ℕ → ℕ → ℤ) (l : ℕ → ℕ) (j k : ℕ) where
     new-count = one-more (count-none k none-before) new-maximum
 
   -- Row i is the lowest that holds the head of the rows below k, and row k does not pass it: then row i still is.
-  module _ {i : ℕ} (o : LowestHolder k a l j i) (under : Present (a k j) → Order k ≤ℤ Order i) where
+  module _ {i : ℕ} (o : LowestHolder k a l j i) (under : Present (a k j) → Height k ≤ℤ Height i) where
     stays : (x : ℕ) → x < k → Maximum k a l x j → Maximum (suc k) a l x j
     stays x hx m =
         record {
           present = m .present;
-          unexceeded = upto {P = λ y. Present (a y j) → Order y ≤ℤ Order x} (m .unexceeded) (λ p.
+          unexceeded = upto {P = λ y. Present (a y j) → Height y ≤ℤ Height x} (m .unexceeded) (λ p.
               omega (arith, signed, under p, m .unexceeded i (o .inside) (o .maximum .present)));
         }
 
@@ -64,7 +66,7 @@ module _ (a : ℕ → ℕ → ℤ) (l : ℕ → ℕ) (j k : ℕ) where
         }
 
     -- with row k, if it is present and reaches the head,
-    pub count-more : {c : ℕ} → Holders k a l j c → Present (a k j) → Order k ≡ Order i → Holders (suc k) a l j (suc c)
+    pub count-more : {c : ℕ} → Holders k a l j c → Present (a k j) → Height k ≡ Height i → Holders (suc k) a l j (suc c)
     count-more s p e =
         one-more (count-same k stays stood s) (record {
           present = p;
@@ -72,7 +74,7 @@ module _ (a : ℕ → ℕ → ℤ) (l : ℕ → ℕ) (j k : ℕ) where
         })
 
     -- and without it otherwise
-    pub count-kept : {c : ℕ} → Holders k a l j c → (Present (a k j) → Order k <ℤ Order i) → Holders (suc k) a l j c
+    pub count-kept : {c : ℕ} → Holders k a l j c → (Present (a k j) → Height k <ℤ Height i) → Holders (suc k) a l j c
     count-kept s lt =
         passed-over (count-same k stays stood s) (λ m.
         omega (arith, signed, lt (m .present), m .unexceeded i (omega (arith, o .inside)) (o .maximum .present)))
@@ -87,7 +89,7 @@ pub record OneHead (h h′ : ℤ) (row row′ c c′ : ℕ) : Type 0 where
 module _ (n : ℕ) (a : ℕ → ℕ → ℤ) where
   module _ {l : ℕ → ℕ} {j : ℕ} where
     -- no two rows are the lowest
-    pub lowest-once : {i k : ℕ} → LowestHolder n a l j i → LowestHolder n a l j k → i ≡ k
+    lowest-once : {i k : ℕ} → LowestHolder n a l j i → LowestHolder n a l j k → i ≡ k
     lowest-once {i} {k} s t =
         elim (decLt i k) [
           | yes lt ↦ absurd (t .lowest i lt (s .maximum))
@@ -147,7 +149,8 @@ module _ (n : ℕ) (a : ℕ → ℕ → ℤ) where
         let (i, hi, e) = onto n (m .columns) (o .transversal .apart) (o .transversal .inside) j hj in
         count-some n s i hi (rw e at (o .maximum i hi))
 
--- Every column has its head, row and count: the rows are taken in one after the other.
+-- Every column of any table has its head, row and count, so the definition asks for nothing that is not there: the rows are taken in one
+-- after the other. (The code does the same from a height below every order of 16 bits, which a table of any numbers has not.)
 pub record Found (n : ℕ) (a : ℕ → ℕ → ℤ) (l : ℕ → ℕ) (j : ℕ) : Type 0 where
   pub head : ℤ
   pub row : ℕ
@@ -232,12 +235,10 @@ module _ (n : ℕ) (a : ℕ → ℕ → ℤ) where
   -- orders within a limit, raised by at most B, have heads within both together
   pub column-head-within : {limit B : ℕ} {l : ℕ → ℕ} {j : ℕ} {h : ℤ} {row c : ℕ} → WithinLimit limit n a → AtMost n l (λ i. B) → j < n
       → ColumnHead n a l j h row c → (negℤ (pos limit) ≤ℤ h) × (h ≤ℤ pos (B + limit))
-  column-head-within {limit} {B} {l} {j} w low hj (held i o e r s) =
-      let u = w i j (o .inside) hj (o .maximum .present) in
-      let p = plus (a i j) (pos (l i)) in (
-        omega (arith, signed, e, p, u .low, below-zero limit),
-        omega (arith, signed, e, p, u .high, low i (o .inside)),
-      )
+  column-head-within {limit} {B} {l} {j} w low hj (held i o e r s) = (
+    head-low n a w hj (record { row = i; inside = o .inside; maximum = o .maximum; is = e }),
+    omega (arith, signed, e, plus (a i j) (pos (l i)), w i j (o .inside) hj (o .maximum .present) .high, low i (o .inside)),
+  )
   column-head-within {limit} w low hj (empty f e r z) = (omega (arith, signed, e, below-zero limit), omega (arith, signed, e))
 
   pub ties-once : {l m c d : ℕ → ℕ} → Same n a l m → Ties n a l c → Ties n a m d → Same n a c d

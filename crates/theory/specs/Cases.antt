@@ -8,7 +8,7 @@ use lib.ListN.{length}
 use Rattle.theory.specs.Limits.{row-limit, order-limit, addition-limit}
 use Rattle.theory.specs.Lists.{nums, ints, columns, StarList}
 use Rattle.theory.specs.Table.{absent, entry, Entries}
-use Rattle.theory.specs.Canon.{SomeTransversal, NoTransversal, Canon, Greatest, Misplaced, Solution}
+use Rattle.theory.specs.Canon.{SomeTransversal, NoTransversal, Canon, ColumnHead, Greatest, Misplaced, Solution}
 
 -- what is handed in beside the table
 pub data Handed : Type 0 where
@@ -145,3 +145,42 @@ cases =
           (o 47 ∷ o 53 ∷ o 61 ∷ o 49 ∷ o 84 ∷ o 102 ∷ o 91 ∷ o 45 ∷ o 43 ∷ o 110 ∷ []) (o 508);
     } ∷
     []
+
+-- ---- document 02, request 1: head, lowest row and count of every column of some tables, under additions
+pub record ColumnCase : Type 0 where
+  pub size : ℕ
+  pub table : List ℤ
+  pub adds : List ℕ
+  pub heads : List ℤ
+  pub rows : List ℕ
+  pub counts : List ℕ
+
+-- the one statement
+abbrev pub ColumnsRight : ColumnCase → Type 0
+ColumnsRight c =
+    (j : ℕ) → j < c .size
+    → ColumnHead (c .size) (entry (c .table) (c .size)) (nums (c .adds)) j (ints (c .heads) j) (nums (c .rows) j) (nums (c .counts) j)
+
+abbrev pub EveryColumns : List ColumnCase → Type 0
+EveryColumns [] = Unit
+EveryColumns (c ∷ cs) = ColumnsRight c × EveryColumns cs
+
+abbrev columns-of : ℕ → List ℤ → List ℕ → List ℤ → List ℕ → List ℕ → ColumnCase
+columns-of n t l h r c = record { size = n; table = t; adds = l; heads = h; rows = r; counts = c }
+
+abbrev pub column-cases : List ColumnCase
+column-cases =
+    -- `5 0 / 5 0` as it stands: two rows share each head, the lowest is row 1
+    columns-of 2 (o 5 ∷ o 0 ∷ o 5 ∷ o 0 ∷ []) (0 ∷ 0 ∷ []) (o 5 ∷ o 0 ∷ []) (1 ∷ 1 ∷ []) (2 ∷ 2 ∷ [])
+    -- under 0 1 the ties are broken, and row 2 alone holds both heads
+    ∷ columns-of 2 (o 5 ∷ o 0 ∷ o 5 ∷ o 0 ∷ []) (0 ∷ 1 ∷ []) (o 6 ∷ o 1 ∷ []) (2 ∷ 2 ∷ []) (1 ∷ 1 ∷ [])
+    -- `0 - / 7 -`: "In a column with no present order head, count and row are 0"
+    ∷ columns-of 2 (o 0 ∷ x ∷ o 7 ∷ x ∷ []) (0 ∷ 0 ∷ []) (o 7 ∷ o 0 ∷ []) (2 ∷ 0 ∷ []) (1 ∷ 0 ∷ [])
+    -- `5 0 0 / 5 0 0 / 0 1 1`: each row holds a maximum with nothing added, and two share the first column's
+    ∷ columns-of 3 (o 5 ∷ o 0 ∷ o 0 ∷ o 5 ∷ o 0 ∷ o 0 ∷ o 0 ∷ o 1 ∷ o 1 ∷ []) (0 ∷ 0 ∷ 0 ∷ []) (o 5 ∷ o 1 ∷ o 1 ∷ []) (1 ∷ 3 ∷ 3 ∷ []) (2 ∷ 1 ∷ 1 ∷ [])
+    -- the pendulum as it stands, and under its simplest canon
+    ∷ columns-of 3 pendulum (0 ∷ 0 ∷ 0 ∷ []) (o 2 ∷ o 2 ∷ o 0 ∷ []) (1 ∷ 2 ∷ 1 ∷ []) (1 ∷ 1 ∷ 2 ∷ [])
+    ∷ columns-of 3 pendulum (0 ∷ 0 ∷ 2 ∷ []) (o 2 ∷ o 2 ∷ o 0 ∷ []) (1 ∷ 2 ∷ 1 ∷ []) (2 ∷ 2 ∷ 2 ∷ [])
+    -- `-3`
+    ∷ columns-of 1 (m 3 ∷ []) (0 ∷ []) (m 3 ∷ []) (1 ∷ []) (1 ∷ [])
+    ∷ []

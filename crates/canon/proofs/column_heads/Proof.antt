@@ -44,7 +44,8 @@ heads-requires : tie.Need-heads-requires
 heads-requires c κs =
     let e = c .before .before in
     let s = passed (e .before .before) in
-    (s .square, held-under _ _ (c .before .held .result) (s .fitting .0) (e .before .additions-stand .ensures) (not-false _ (e .if1 .left)) (c .before .held .ensures))
+    let held = c .before .held in
+    (s .square, held-under _ _ (held .result) (s .fitting .0) (e .before .additions-stand .ensures) (not-false _ (e .if1 .left)) (held .ensures))
 
 -- past the test of the additions
 abbrev tested-at : tie.After-heads → tie.After-enum-told

@@ -1,6 +1,5 @@
 -- The ways through the count of one more entry. Assumes nothing.
-use mathlib.Core.Path.{_≡_, refl, sym, _∙_}
-use native.Mathlib.Omega.{arith}
+use mathlib.Core.Path.{_≡_, sym, _∙_}
 use borrow.Author.Needs.{needs, sfits-of}
 use lib.IntN.{pos, _+ℤ_}
 use mir.Syntax.{w32}
@@ -35,7 +34,8 @@ add-result c = search needs
 returns-3 : tie.Need-returns-3
 returns-3 c =
     let r = c .before .before in
-    counted-tied _ _ _ _ (present-bits _ (r .before .if1 .left)) (sym (raised-is r) ∙ bits-same (raised-fits r) (r .before .before .fits .height) (c .if3 .taken))
+    counted-tied _ _ _ _ (present-bits _ (r .before .if1 .left))
+    (sym (raised-is r) ∙ bits-same (raised-fits r) (r .before .before .fits .height) (c .if3 .taken))
 
 returns-4 : tie.Need-returns-4
 returns-4 c =

@@ -1,14 +1,12 @@
 -- Head, lowest row and count of a column, one row after the other. Assumes nothing.
 use mathlib.Core.Path.{_≡_}
-use Prim.Native.Nat.{_-_, _≤_, _<_}
+use Prim.Native.Nat.{_-_, _≤_}
 use native.Mathlib.Numerals.{add-one}
 use native.Mathlib.Omega.{arith}
 use borrow.Author.Needs.{needs, sfits-of}
-use lib.Signed.{_<ℤ_}
 use mir.Syntax.{w16, w32}
 use mir.Val.{toZ}
 use mir.Facts.{toZ-ofZ}
-use Rattle.theory.specs.Table.{absent}
 use Rattle.theory.proofs.Signed.{signed}
 use Rattle.orders.proofs.Places.{Sought, sought-none, sought-few, sought-more, top-empty, top-found}
 use Rattle.orders.proofs.head.Statement.{statement}

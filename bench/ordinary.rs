@@ -500,6 +500,15 @@ fn put_refusal(out: &mut Vec<u8>, number: usize, line: Option<usize>) {
     out.push(b'\n');
 }
 
+/// Pryce's index; in a table with a negative order the largest addition.
+fn index_of(n: usize, table: &[i16], answer: &Answer) -> i32 {
+    let largest = answer.additions[..n].iter().max().map_or(0, |&addition| addition as i32);
+    if table.iter().any(|&order| order != ABSENT && order < 0) {
+        return largest;
+    }
+    largest + answer.heads[..n].contains(&0) as i32
+}
+
 /// The printed answer to a sheet, into the buffer given, which is emptied first.
 #[inline(never)]
 pub fn print(sheet: &[u8], out: &mut Vec<u8>) {
@@ -518,7 +527,7 @@ pub fn print(sheet: &[u8], out: &mut Vec<u8>) {
             put_section(out, b"heads ", answer.heads[..n].iter().copied());
             put_section(out, b"ties ", ties[..n].iter().map(|&c| c as i32));
             put_section(out, b"sum ", [answer.sum].into_iter());
-            put_section(out, b"index ", answer.additions[..n].iter().max().map(|&a| a as i32).into_iter());
+            put_section(out, b"index ", [index_of(n, &sheet.table[..n * n], &answer)].into_iter());
         }
         Err(number) => put_refusal(out, number as usize, None),
     }

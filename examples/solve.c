@@ -6,15 +6,30 @@
 
 #define N 3
 
-/* Equations down (fx, fy, rod), unknowns across (x, y, pull). */
+/* Equations down, unknowns across; each label has 8 bytes, filled up with zero bytes. */
 static const int16_t table[N * N] = {
     2, CANON_ABSENT, 0,
     CANON_ABSENT, 2, 0,
     0, 0, CANON_ABSENT,
 };
+static const char equations[N][8] = {"fx", "fy", "rod"}, unknowns[N][8] = {"x", "y", "pull"};
+
+/* Prints the section `index` as the library does: the last two lines of the printed answer of the table's sheet. */
+static uint32_t print_index(void) {
+    uint8_t sheet[CANON_SHEET], text[CANON_PRINTED];
+    size_t sheet_length, length, at, lines = 0;
+    uint32_t refused = canon_write_sheet(N, table, N * N, (const uint8_t *)equations, sizeof equations,
+                                         (const uint8_t *)unknowns, sizeof unknowns, sheet, sizeof sheet, &sheet_length);
+    if (!refused) refused = canon_print(sheet, sheet_length, text, sizeof text, &length);
+    if (refused) return refused;
+    for (at = length; at > 0; at--)
+        if (text[at - 1] == '\n' && lines++ == 2) break;
+    printf("%.*s", (int)(length - at), (const char *)text + at);
+    return 0;
+}
 
 int main(void) {
-    uint32_t adds[N], stars[N], rows[N], counts[N], index = 0;
+    uint32_t adds[N], stars[N], rows[N], counts[N];
     int32_t heads[N], sum;
     uint32_t refused = canon_solve(N, table, N * N, adds, N, stars, N, heads, N, &sum);
     /* Under the additions found: the heads again, with the lowest row that holds each and how many rows do. */
@@ -24,17 +39,19 @@ int main(void) {
         return 1;
     }
     printf("adds %d\n", N);
-    for (int i = 0; i < N; i++) {
-        printf("%u\n", (unsigned)adds[i]);
-        if (adds[i] > index) index = adds[i];
-    }
+    for (int i = 0; i < N; i++) printf("%u\n", (unsigned)adds[i]);
     printf("stars %d\n", N);
     for (int i = 0; i < N; i++) printf("%u\n", (unsigned)stars[i]);
     printf("heads %d\n", N);
     for (int j = 0; j < N; j++) printf("%d\n", (int)heads[j]);
     printf("ties %d\n", N);
     for (int j = 0; j < N; j++) printf("%u\n", (unsigned)counts[j]);
-    printf("sum 1\n%d\nindex 1\n%u\n", (int)sum, (unsigned)index);
+    printf("sum 1\n%d\n", (int)sum);
+    refused = print_index();
+    if (refused) {
+        printf("refused %u\n", (unsigned)refused);
+        return 1;
+    }
     for (int j = 0; j < N; j++)
         if (counts[j] > 1) printf("column %d: %u rows share %d, the lowest is row %u\n", j + 1, (unsigned)counts[j], (int)heads[j], (unsigned)rows[j]);
     return 0;

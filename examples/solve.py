@@ -15,11 +15,16 @@ def lent(rows):
     return (ctypes.c_int16 * len(entries))(*entries)
 
 
-def call(function, n, *slices):
-    """Calls a function of the library with n and slices; a single result among them is handed on as it is."""
-    words = [ctypes.c_size_t(n)]
-    for one in slices:
-        words += [one, ctypes.c_size_t(len(one))] if isinstance(one, ctypes.Array) else [ctypes.byref(one)]
+def call(function, *handed):
+    """Calls a function of the library: a size goes in as it is, a slice with its length, a single result as a pointer."""
+    words = []
+    for one in handed:
+        if isinstance(one, int):
+            words.append(ctypes.c_size_t(one))
+        elif isinstance(one, ctypes.Array):
+            words += [one, ctypes.c_size_t(len(one))]
+        else:
+            words.append(ctypes.byref(one))
     function.restype = ctypes.c_uint32
     refused = function(*words)
     if refused:
@@ -42,14 +47,30 @@ def column_heads(library, rows, adds):
     return list(zip(heads, lowest, counts))
 
 
+def slots(labels):
+    """Labels as the library takes them: 8 bytes each, filled up with zero bytes."""
+    text = b"".join(label.encode().ljust(8, b"\0") for label in labels)
+    return (ctypes.c_uint8 * len(text))(*text)
+
+
+def printed(library, rows, equations, unknowns):
+    """The printed answer of a labelled table, by way of its sheet."""
+    sheet, text, length = (ctypes.c_uint8 * 12288)(), (ctypes.c_uint8 * 4000)(), ctypes.c_size_t()
+    call(library.canon_write_sheet, len(rows), lent(rows), slots(equations), slots(unknowns), sheet, length)
+    call(library.canon_print, (ctypes.c_uint8 * length.value)(*sheet[:length.value]), text, length)
+    return bytes(text[:length.value]).decode()
+
+
 def main():
     library = ctypes.CDLL(sys.argv[1])
-    # Equations down (fx, fy, rod), unknowns across (x, y, pull).
+    equations, unknowns = ["fx", "fy", "rod"], ["x", "y", "pull"]
     rows = [[2, None, 0], [None, 2, 0], [0, 0, None]]
     adds, stars, heads, total = solve(library, rows)
     columns = column_heads(library, rows, adds)
     ties = [count for _, _, count in columns]
-    sections = {"adds": adds, "stars": stars, "heads": heads, "ties": ties, "sum": [total], "index": [max(adds)]}
+    # The index figure is the last line of the printed answer.
+    index = printed(library, rows, equations, unknowns).splitlines()[-1]
+    sections = {"adds": adds, "stars": stars, "heads": heads, "ties": ties, "sum": [total], "index": [index]}
     for name, values in sections.items():
         print(f"{name} {len(values)}", *values, sep="\n")
     for number, (head, lowest, count) in enumerate(columns, 1):

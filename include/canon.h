@@ -11,8 +11,9 @@
  * THE ANSWER. The additions (one for each row, zero or more) are the simplest canon: no canon has a smaller addition in
  * any row. The stars (one column for each row, from 1) are the first complete transversal of column maxima. The heads
  * (one for each column) are the largest raised orders. The ties (one for each column) say how many rows hold the head.
- * The sum is the total of the starred orders as they stand in the table: the count of starting values. The index figure
- * is the largest addition.
+ * The sum is the total of the starred orders as they stand in the table: the count of starting values. The index figure,
+ * which canon_print prints, is Pryce's structural index: the largest addition, plus one when some head is 0; in a table
+ * with a negative order it is the largest addition.
  *
  * SLICES AND SINGLE RESULTS. Each slice is two arguments: a pointer, then the number of its elements (not of its bytes).
  * A single result is a pointer alone. A pointer is never NULL and is aligned for its type, also where the number is 0.

@@ -3,8 +3,8 @@
 
     python3 tests/program_sheets.py FOLDER
 
-Additions, stars, heads and ties come from route_vectors.py, which works them out from the definitions of documents 01 and 02 and checks them; the
-sheets and the printed pages are joined here from their lines. Nothing is shared with the crates.
+Additions, stars, heads, ties and the index figure come from route_vectors.py, which works them out from the definitions of documents
+01 and 02 and checks them; the sheets and the printed pages are joined here from their lines. Nothing is shared with the crates.
 """
 import os
 import random
@@ -30,8 +30,46 @@ def page(t):
         return ["refused 6"]
     stars = truth.first(truth.maxima(t, l))
     sections = {"adds": l, "stars": [j + 1 for j in stars], "heads": truth.heads_of(t, l),
-                "ties": [count for _, _, count in truth.column_heads(t, l)], "sum": [truth.total(t, stars)], "index": [max(l)]}
+                "ties": [count for _, _, count in truth.column_heads(t, l)], "sum": [truth.total(t, stars)], "index": [truth.index(t, l)]}
     return [str(line) for name, values in sections.items() for line in (f"{name} {len(values)}", *values)]
+
+
+# The index figure on both sides of each edge, written down by hand.
+FIGURES = {
+    # one row
+    "0": 1,
+    "1": 0,
+    "-1": 0,
+    # a head 0, without a negative order and with one that is no star and no maximum, also outside the row and the column of that head
+    "5 0 / 5 0": 1,
+    "5 0 / -1 0": 0,
+    "2 - 0 / - 2 0 / 0 0 -": 3,
+    "2 -1 0 / - 2 0 / 0 0 -": 2,
+    "2 -100 0 / - 2 0 / 0 0 -": 2,
+    "0 - - / - 2 1 / - 1 3": 1,
+    "0 - - / - 2 -1 / - 1 3": 0,
+    # a head 0, without a negative order and with one that is starred
+    "2 0 / 0 -": 3,
+    "2 0 / 0 -1": 1,
+    "0 100 / -100 -100": 100,
+    # all heads above 0, with orders 0 and without
+    "5 0 0 / 5 0 0 / 0 1 1": 1,
+    "1 - / - 2": 0,
+    # heads below 0, with a head 0 beside them and without
+    "-5 - / - -3": 0,
+    "-5 - / - 0": 0,
+    "-5 - / - 3": 0,
+}
+
+
+def figures():
+    """The tables above, and large ones in which one place decides."""
+    yield from ((truth.read(rows), figure) for rows, figure in FIGURES.items())
+    for j in range(0, 32, 31):
+        yield [[int(i != j) if i == k else A for k in range(32)] for i in range(32)], 1
+    for i, j in ((0, 0), (0, 31), (31, 0), (31, 31)):
+        yield [[-1 if (k, m) == (i, j) else 0 for m in range(32)] for k in range(32)], 0
+    yield [[0] * 32 for _ in range(32)], 1
 
 
 def text(lines):
@@ -63,6 +101,11 @@ def inputs():
     yield "one_row", tabled([[-3]])
     yield "no_transversal", tabled(truth.read("0 - / 7 -"))
     yield "no_orders", tabled([[A] * 32 for _ in range(32)])
+    yield "one_absent_place", tabled([[A]])
+    for at, (t, figure) in enumerate(figures(), 1):
+        given, answer = tabled(t)
+        assert answer.endswith(b"index 1\n%d\n" % figure), (t, answer)
+        yield f"figure_{at}", (given, answer)
 
     # a line wrong, missing, unended, one too many, and no sheet at all
     for at in range(len(pendulum)):

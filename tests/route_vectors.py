@@ -68,6 +68,13 @@ def column_heads(t, l):
     return [(h, rows[0], len(rows)) if rows else (0, 0, 0) for h, rows in zip(heads_of(t, l), held)]
 
 
+def index(t, l):
+    """Document 02: the largest addition, plus one when some head is 0; in a table with a negative order the largest addition."""
+    if any(v is not A and v < 0 for row in t for v in row):
+        return max(l)
+    return max(l) + 1 if 0 in heads_of(t, l) else max(l)
+
+
 def maxima(t, l):
     h = heads_of(t, l)
     return [[j for j in cs if t[i][j] + l[i] == h[j]] for i, cs in enumerate(present(t))]

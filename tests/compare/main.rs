@@ -1,13 +1,15 @@
 //! Compares the C interface with an independent second program that tries every transversal.
 //!
 //! compare SEED COUNT VECTORS EXAMPLES DRIVER..: COUNT random tables of up to 7 rows, COUNT / 20 tables of 8 to 32 rows
-//! checked by certificate, as many again with ties and empty columns for the heads of columns, COUNT random and mutated sheets,
-//! the stored vectors in the file VECTORS, and the sheets in the folder EXAMPLES with the answers beside them. DRIVER.. is the
-//! command that runs driver.c. Ends with status 1 on any difference, and also if some refusal that a call can give was never given.
+//! checked by certificate, as many again with ties and empty columns for the heads of columns, COUNT / 4 printed about the edges of
+//! the index figure, COUNT random and mutated sheets, the stored vectors in the file VECTORS, and the sheets in the folder EXAMPLES with
+//! the answers beside them. DRIVER.. is the command that runs driver.c. Ends with status 1 on any difference, and also if some refusal
+//! that a call can give was never given, or some side of the figure's edges never printed.
 
 mod brute;
 mod certificate;
 mod chance;
+mod figures;
 mod heads;
 mod oracle;
 mod sheets;
@@ -28,6 +30,8 @@ struct Tally {
     given: BTreeMap<(u8, u32), usize>,
     /// How often each call gave something else than is right.
     different: BTreeMap<u8, usize>,
+    /// How many tables with an answer were printed on each side of the index figure's edges.
+    sides: BTreeMap<(bool, bool), usize>,
 }
 
 impl Tally {
@@ -60,10 +64,14 @@ impl Tally {
             (Call::ColumnHeads, &[0, 1, 2, 3, 4]),
         ];
         let pairs = possible.iter().flat_map(|(call, numbers)| numbers.iter().map(move |number| (*call, *number)));
-        pairs
+        let mut missing: Vec<String> = pairs
             .filter(|(call, number)| !self.given.contains_key(&(*call as u8, *number)))
             .map(|(call, number)| format!("{call:?} never gave {number}"))
-            .collect()
+            .collect();
+        if self.sides.len() < 4 {
+            missing.push(format!("printed only tables with (negative order, head 0) of {:?}", self.sides.keys()));
+        }
+        missing
     }
 }
 
@@ -127,12 +135,44 @@ fn large_tables(driver: &mut Driver, chance: &mut Chance, tally: &mut Tally, cou
                         expected.push(oracle::expected(&request, &truth));
                         requests.push(request);
                     }
+                    let (request, wanted) = printing(chance, tally, &truth);
+                    requests.push(request);
+                    expected.push(wanted);
                 }
                 Err(fault) => {
                     tally.failures += 1;
                     println!("WRONG ({fault})\nasked {}\ngiven {}", request.describe(), answer.describe());
                 }
             }
+        }
+        let answers = driver.ask(&requests);
+        tally.compare(&requests, &expected, &answers);
+    }
+}
+
+/// A request to print a table whose answer is known, and what must come of it.
+fn printing(chance: &mut Chance, tally: &mut Tally, truth: &Truth) -> (Request, Answer) {
+    if let Some(side) = figures::side(truth) {
+        *tally.sides.entry(side).or_insert(0) += 1;
+    }
+    let sheet = sheets::text(&sheets::labelled(chance, truth.table.clone()));
+    let page = sheets::page(truth);
+    let request = sheets::print_request(chance, &sheet, page.len());
+    let wanted = sheets::expected_page(&request, &page);
+    (request, wanted)
+}
+
+/// Printed answers about the edges of the index figure: COUNT tables of 1 to 6 rows.
+fn figure_tables(driver: &mut Driver, chance: &mut Chance, tally: &mut Tally, count: usize) {
+    let sizes: Vec<usize> = (0..count).map(|k| k % 6 + 1).collect();
+    for batch in sizes.chunks(250) {
+        let mut requests = Vec::new();
+        let mut expected = Vec::new();
+        for &n in batch {
+            let truth = Truth::by_trying(figures::random_table(chance, n));
+            let (request, wanted) = printing(chance, tally, &truth);
+            requests.push(request);
+            expected.push(wanted);
         }
         let answers = driver.ask(&requests);
         tally.compare(&requests, &expected, &answers);
@@ -211,13 +251,14 @@ fn main() {
     let count: usize = count.parse().expect("COUNT is a number");
     let mut chance = Chance::new(seed);
     let mut driver = Driver::start(driver);
-    let mut tally = Tally { failures: 0, given: BTreeMap::new(), different: BTreeMap::new() };
+    let mut tally = Tally { failures: 0, given: BTreeMap::new(), different: BTreeMap::new(), sides: BTreeMap::new() };
     let text = std::fs::read_to_string(vectors).expect("the vectors");
     let stored = vectors::run(&mut driver, &text, &mut tally.failures);
     check_oracle(&mut chance, count / 20);
     small_tables(&mut driver, &mut chance, &mut tally, count);
     large_tables(&mut driver, &mut chance, &mut tally, count / 20);
     tied_tables(&mut driver, &mut chance, &mut tally, count);
+    figure_tables(&mut driver, &mut chance, &mut tally, count / 4);
     random_sheets(&mut driver, &mut chance, &mut tally, count);
     let sheets = example_sheets(&mut driver, &mut chance, &mut tally, examples);
     let missing = tally.missing();
@@ -226,8 +267,9 @@ fn main() {
     let large = count / 20;
     let calls: usize = tally.given.values().sum::<usize>() + stored;
     println!(
-        "compare: seed {seed}, {count} tables up to 7 rows, {large} of 8 to 32 rows, as many with ties, {count} sheets, \
-         {sheets} example sheets, {stored} stored vectors, {calls} calls, {} different",
+        "compare: seed {seed}, {count} tables up to 7 rows, {large} of 8 to 32 rows, as many with ties, {} printed for the index \
+         figure, {count} sheets, {sheets} example sheets, {stored} stored vectors, {calls} calls, {} different",
+        count / 4,
         tally.failures
     );
     for (call, count) in &tally.different {

@@ -195,16 +195,18 @@ pub fn printed(sheet: &[u8]) -> String {
     }
     match read(sheet) {
         Err(line) => format!("refused 10 {line}\n"),
-        Ok(labelled) => {
-            let truth = Truth::by_trying(labelled.table);
-            truth.solved.as_ref().map_or("refused 6\n".to_string(), |solved| sections(&truth.table, solved))
-        }
+        Ok(labelled) => page(&Truth::by_trying(labelled.table)),
     }
+}
+
+/// The same of a table whose answer is known.
+pub fn page(truth: &Truth) -> String {
+    truth.solved.as_ref().map_or("refused 6\n".to_string(), |solved| sections(&truth.table, solved))
 }
 
 fn sections(table: &Table, solved: &Solved) -> String {
     let ties = table.column_heads(&solved.additions);
-    let index = *solved.additions.iter().max().expect("a table has a row");
+    let index = table.index(&solved.additions);
     let section = |name: &str, values: Vec<String>| format!("{name} {}\n{}\n", values.len(), values.join("\n"));
     section("adds", solved.additions.iter().map(|v| v.to_string()).collect())
         + &section("stars", solved.stars.iter().map(|v| v.to_string()).collect())
@@ -216,7 +218,12 @@ fn sections(table: &Table, solved: &Solved) -> String {
 
 /// What printing must answer.
 pub fn expected_print(request: &Request) -> Answer {
-    written(request, printed(&request.parts[0].bytes).as_bytes(), 1)
+    expected_page(request, &printed(&request.parts[0].bytes))
+}
+
+/// The same where the page is known.
+pub fn expected_page(request: &Request, page: &str) -> Answer {
+    written(request, page.as_bytes(), 1)
 }
 
 fn random_label(chance: &mut Chance) -> Vec<u8> {
@@ -238,7 +245,14 @@ fn random_labels(chance: &mut Chance, n: usize) -> Vec<Vec<u8>> {
 }
 
 pub fn random_labelled(chance: &mut Chance, n: usize) -> Labelled {
-    Labelled { table: random_table(chance, n), rows: random_labels(chance, n), cols: random_labels(chance, n) }
+    let table = random_table(chance, n);
+    labelled(chance, table)
+}
+
+/// A table with random labels.
+pub fn labelled(chance: &mut Chance, table: Table) -> Labelled {
+    let n = table.n;
+    Labelled { table, rows: random_labels(chance, n), cols: random_labels(chance, n) }
 }
 
 /// A sheet with one to three changes of bytes, lines or numbers.

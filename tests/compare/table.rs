@@ -59,6 +59,20 @@ impl Table {
         (0..self.n).map(|j| self.column_head(additions, j)).collect()
     }
 
+    pub fn some_negative(&self) -> bool {
+        (0..self.n).any(|i| (0..self.n).any(|j| self.order(i, j).is_some_and(|order| order < 0)))
+    }
+
+    pub fn some_head_zero(&self, additions: &[u32]) -> bool {
+        (0..self.n).any(|j| self.head(additions, j) == Some(0))
+    }
+
+    /// Document 02's index figure: the largest addition, plus one when some head is 0, but not where an order is negative.
+    pub fn index(&self, additions: &[u32]) -> u32 {
+        let largest = *additions.iter().max().expect("a table has a row");
+        if self.some_head_zero(additions) && !self.some_negative() { largest + 1 } else { largest }
+    }
+
     /// Is the place a column maximum?
     pub fn maximum(&self, additions: &[u32], heads: &[i32], i: usize, j: usize) -> bool {
         self.reaches(additions, heads[j], i, j)

@@ -4,11 +4,12 @@
 //! (`adds`, `stars`, `heads`, `sum`, as far as the source prints them, or `refused`), then what must come of lists handed
 //! in: `from-canon LIST`, `from-stars LIST` (the table's own answer, or `: refused NUMBER`), `simplest LIST : yes`, `: no`
 //! or `: refused NUMBER`, `column-heads LIST : HEAD ROW COUNT, ..` (a column each) or `: refused NUMBER`; `ties` are the counts
-//! under the additions found. `all VALUE N` stands for N rows of one value; `#` starts a comment.
+//! under the additions found, `index` the figure that is printed. `all VALUE N` stands for N rows of one value; `#` starts a comment.
 
 use crate::certificate;
 use crate::chance::Chance;
-use crate::oracle;
+use crate::oracle::{self, Truth};
+use crate::sheets;
 use crate::table::{ColumnHead, Solved, Table, ABSENT};
 use crate::tables::request;
 use crate::wire::{Answer, Call, Driver, Request};
@@ -22,6 +23,7 @@ struct Case {
     heads: Option<Vec<i32>>,
     ties: Option<Vec<u32>>,
     sum: Option<i32>,
+    index: Option<u32>,
     refused: u32,
     tries: Vec<(Call, Vec<u32>, String)>,
 }
@@ -49,6 +51,7 @@ impl Case {
             "heads" => self.heads = Some(numbers(rest)),
             "ties" => self.ties = Some(numbers(rest)),
             "sum" => self.sum = numbers(rest).pop(),
+            "index" => self.index = numbers(rest).pop(),
             "refused" => self.refused = numbers(rest)[0],
             "from-canon" => self.tries.push((Call::FromCanon, numbers(list), outcome.to_string())),
             "from-stars" => self.tries.push((Call::FromStars, numbers(list), outcome.to_string())),
@@ -144,6 +147,25 @@ fn fault_of_ties(case: &Case, alone: &Answer, request: &Request, answer: &Answer
     differs(&case.ties, &answer.parts[4].as_numbers()).then(|| "other ties than are stored".to_string())
 }
 
+/// Prints the table. The page must be that of the answer to the table alone, and the index figure the one stored.
+fn print_case(driver: &mut Driver, chance: &mut Chance, case: &Case, alone: &Answer) -> (Request, Option<String>) {
+    let solved = (alone.status == 0).then(|| solved_in(alone, 1));
+    let truth = Truth { table: case.table(), solved, transversals: None };
+    let page = sheets::page(&truth);
+    let sheet = sheets::text(&sheets::labelled(chance, case.table()));
+    let request = sheets::print_request(chance, &sheet, page.len());
+    let answer = driver.ask(std::slice::from_ref(&request)).remove(0);
+    let index = truth.solved.as_ref().map(|solved| truth.table.index(&solved.additions));
+    let fault = if answer != sheets::expected_page(&request, &page) {
+        Some("another printed answer")
+    } else if case.index.is_some() && case.index != index {
+        Some("another index figure than is stored")
+    } else {
+        None
+    };
+    (request, fault.map(|words| words.to_string()))
+}
+
 /// Runs all vectors; gives their number and prints what fails.
 pub fn run(driver: &mut Driver, text: &str, failures: &mut usize) -> usize {
     let mut chance = Chance::new(1);
@@ -162,6 +184,11 @@ pub fn run(driver: &mut Driver, text: &str, failures: &mut usize) -> usize {
             answers.extend(driver.ask(std::slice::from_ref(&again)));
             faults.push(fault_of_ties(&case, &answers[0], &again, &answers[answers.len() - 1]));
             requests.push(again);
+        }
+        if [0, 6].contains(&answers[0].status) {
+            let (printed, fault) = print_case(driver, &mut chance, &case, &answers[0]);
+            faults.push(fault);
+            requests.push(printed);
         }
         for (fault, request) in faults.iter().zip(&requests).filter_map(|(f, r)| Some((f.as_ref()?, r))) {
             println!("vector {}: {fault}\n{}", case.name, request.describe());

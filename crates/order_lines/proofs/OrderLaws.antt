@@ -12,10 +12,11 @@ use lib.Seq.{take-suc, length-take-le}
 use mir.Syntax.{w16, w64}
 use mir.Val.{SFits, Fits, ofZ}
 use Rattle.orders.proofs.Entries.{absent-bits}
+use Rattle.orders.proofs.Places.{row-inside, col-inside}
 use Rattle.sheet.specs.Text.{feed, blank, text, signed, ended}
 use Rattle.sheet.specs.Sheet.{isAbsent, presentCount, orderText, endedLines, orderLines}
 use Rattle.sheet.proofs.Numbers.{text-within}
-use Rattle.sheet.proofs.Orders.{ended-append, lines-append, count-append, row-inside, col-inside}
+use Rattle.sheet.proofs.Orders.{ended-append, lines-append, count-append}
 use Rattle.order_lines.specs.Parts.{orderBytes, entryBytes, orderEnd, value-most}
 
 -- the length of a number of 16 bits, without its sign and with it

@@ -1,7 +1,8 @@
 -- What the tests of an entry tell. Assumes nothing.
 use mathlib.Core.Path.{_≡_, refl, sym, _∙_, ap}
-use mathlib.Core.Bool.{Bool, true, false, _&&_}
+use mathlib.Core.Bool.{Bool, true, false, _&&_, _||_}
 use Prim.Native.Nat.{ℕ, _+_, _^_, _<_}
+use native.Mathlib.Decide.{ℕ-discrete}
 use native.Mathlib.Omega.{arith}
 use lib.Dec.{eqb}
 use lib.IntN.{ℤ, pos, negsuc, _+ℤ_, negℤ}
@@ -66,6 +67,17 @@ pub tells-below : (P : ℕ → Type 0) (i : ℕ) (a b : Bool) → Tells a ((x : 
 tells-below P i true b below this =
     record { holds = λ e. below-more P i (below .holds refl) (this .holds e); fails = λ e all. this .fails e (all i (omega arith)) }
 tells-below P i false b below this = tells-no (λ all. below .fails refl (λ x h. all x (omega arith)))
+
+-- a test of something below i and a test of i itself, either in one
+pub tells-some : (P : ℕ → Type 0) (i : ℕ) (a b : Bool) → Tells a ((x : ℕ) × (x < i) × P x) → Tells b (P i)
+    → Tells (a || b) ((x : ℕ) × (x < i + 1) × P x)
+tells-some P i true b below this = let (x, h, p) = below .holds refl in tells-yes (x, omega arith, p)
+tells-some P i false b below this =
+    record { holds = λ e. (i, omega arith, this .holds e); fails = λ e some. none e (some .0) (some .1) (some .2) (ℕ-discrete (some .0) i) }
+  where
+    none : b ≡ false → (x : ℕ) → x < i + 1 → P x → Dec (x ≡ i) → ⊥
+    none e x h p (yes same) = this .fails e (rw same at p)
+    none e x h p (no other) = below .fails refl (x, omega arith, p)
 
 -- two signed numbers compared as the machine holds them
 pub read-le : {w : Width} {x y : ℤ} → SFits w x → SFits w y → leZ (toZ w (ofZ w x)) (toZ w (ofZ w y)) ≡ true → x ≤ℤ y

@@ -2,8 +2,8 @@
 use mathlib.Core.Path.{_≡_, refl, _∙_}
 use mathlib.Core.List.{List}
 use mathlib.Core.Logic.{_≢_, _⊎_, inl, inr}
-use Prim.Native.Nat.{ℕ, suc, _+_, _*_, _≤_, _<_}
-use native.Mathlib.Nat.{mul-le-mul-right}
+use Prim.Native.Nat.{ℕ, suc, _+_, _*_, _/_, _%_, _≤_, _<_}
+use native.Mathlib.Nat.{mul-le-mul-right, mul-add-div-right, div-eq-of-lt, mul-add-mod-self-right, mod-eq-of-lt, div-add-mod', div-lt-iff-lt-mul, mod-lt}
 use native.Mathlib.Decide.{ℕ-discrete}
 use native.Mathlib.Numerals.{add-one}
 use native.Mathlib.Omega.{arith}
@@ -28,6 +28,28 @@ use mir.Val.{SFits}
 -- the place of row i and column j is one of the n × n
 pub cell : (n i j : ℕ) → i < n → j < n → i * n + j < n * n
 cell n i j hi hj = omega (arith, mul-le-mul-right n hi)
+
+-- and tells its row and its column
+module _ (n i j : ℕ) (inside : j < n) where
+  pub place-row : (i * n + j) / n ≡ i
+  place-row = mul-add-div-right {m = n} (omega arith) i j ∙ omega (arith, div-eq-of-lt {n = j} {m = n} inside)
+
+  pub place-col : (i * n + j) % n ≡ j
+  place-col = mul-add-mod-self-right i n j ∙ mod-eq-of-lt {n = j} {m = n} inside
+
+-- the row and the column of place p
+module _ (n p : ℕ) (inside : p < n * n) where
+  pub some-row : 0 < n
+  some-row = elim (ℕ-discrete n 0) [ yes e ↦ absurd (let h : n * n ≡ 0 = rw e in omega arith) | no ne ↦ omega arith ]
+
+  pub row-inside : p / n < n
+  row-inside = div-lt-iff-lt-mul {k = n} {x = p} {y = n} some-row .1 inside
+
+  pub col-inside : p % n < n
+  col-inside = mod-lt p {m = n} some-row
+
+  pub row-col : p / n * n + p % n ≡ p
+  row-col = div-add-mod' p n
 
 pub square-small : (n : ℕ) → n ≤ row-limit → n * n ≤ row-limit * row-limit
 square-small n h = omega (arith, mul-le-mul-right n h)

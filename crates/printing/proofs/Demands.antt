@@ -1,12 +1,15 @@
--- The promise of printing meets the customer's demand 1. Assumes nothing.
+-- The promise of printing meets the customer's demand 1, and what requests 1 and 2 say of the printed answer. Assumes nothing.
 use mathlib.Core.Path.{_≡_, sym, ap, _∙_}
 use mathlib.Core.List.{List, []}
 use Prim.Native.Nat.{ℕ}
 use native.Mathlib.Omega.{arith}
 use lib.IntN.{ℤ}
 use lib.ListN.{length}
+use Rattle.theory.specs.Lists.{nums}
 use Rattle.theory.specs.Table.{entry}
+use Rattle.theory.specs.Canon.{LargestAddition}
 use Rattle.theory.proofs.Counts.{count-once}
+use Rattle.theory.proofs.Index.{index-near, index-kept, index-more, more-only, zero-head, head-zero}
 use Rattle.theory.proofs.Ties.{head-holders}
 use Rattle.orders.specs.Refusals.{Said, gives, refuses}
 use Rattle.orders.proofs.Refusals.{same-number, not-both}
@@ -17,7 +20,7 @@ use Rattle.canon.proofs.Unique.{same-list}
 use Rattle.canon.proofs.Ties.{heads-told, heads-same}
 use Rattle.page.specs.Printed.{Figures, printed}
 use Rattle.printing.specs.Promise.{FiguresOf, PrintPromise, no-room, wrote}
-use Rattle.printing.specs.Demands.{printing-due, PrintingCall}
+use Rattle.printing.specs.Demands.{printing-due, Request2, PrintingCall}
 use Rattle.printing.proofs.Fits.{answers-fit}
 use Rattle.printing.proofs.Unique.{sheet-once, print-once}
 
@@ -40,6 +43,18 @@ module _ (n : ℕ) (t : List ℤ) (f : Figures) (b b′ : HeadBuffers) (r : Fill
         same-list 0 (b′ .counts) (f .ties) (w .counts-long) (p .ties-long) (λ j hj. count-once (head-holders n (entry t n) (w .tops j hj)) (p .is-ties j hj)),
       )
 
+-- Request 2: the heads that are printed are those of the additions that are printed, so one of them is 0 exactly when some head is.
+module _ (n : ℕ) (t : List ℤ) (f : Figures) (most : ℕ) where
+  printed-index : FiguresOf n t f → LargestAddition n (nums (f .adds)) most → Request2 n t f most
+  printed-index p o =
+      let a = entry t n in
+      record {
+        near = index-near n a o (p .is-index);
+        kept = λ some. index-kept n a o some (p .is-index);
+        one-more = λ none j hj e. index-more n a o none (zero-head n a (p .solution .heads) j hj e) (p .is-index);
+        only-then = λ e. let (none, z) = more-only n a o (p .is-index) e in (none, head-zero n a (p .solution .heads) z);
+      }
+
 pub printing-call : PrintingCall
 printing-call =
     record {
@@ -51,4 +66,5 @@ printing-call =
           };
       roomy = answers-fit;
       columns = shared-columns;
+      index = printed-index;
     }

@@ -7,11 +7,12 @@ use native.Mathlib.Decide.{decLe}
 use native.Mathlib.Omega.{arith}
 use lib.IntN.{ℤ, pos, negsuc}
 use lib.ListN.{length, getD, length-append, length-map}
-use Rattle.theory.specs.Limits.{row-limit, sheet-limit}
+use Rattle.theory.specs.Limits.{row-limit, sheet-limit, addition-found}
 use Rattle.theory.specs.Lists.{nums, ints}
-use Rattle.theory.specs.Table.{Order}
+use Rattle.theory.specs.Table.{Order, entry}
 use Rattle.theory.proofs.Signed.{signed as signs}
 use Rattle.theory.proofs.Counts.{count-most}
+use Rattle.theory.proofs.Index.{index-low}
 use Rattle.orders.specs.Refusals.{Said, refuses}
 use Rattle.handed.specs.Handed.{Sound}
 use Rattle.handed.proofs.Basics.{in-size, sized}
@@ -104,11 +105,15 @@ only P x d p zero h = p
 only P x d p (suc k) h = absurd (omega arith)
 
 -- ---- the answer of a table: what is found is far below ten digits
+-- the index figure is at most one more than some addition
+figure-small : (n : ℕ) (t : List ℤ) (f : Figures) → FiguresOf n t f → ((i : ℕ) → i < n → nums (f .adds) i ≤ addition-found row-limit) → f .index ≤ widest
+figure-small n t f p low =
+    let (i, hi, le) = index-low n (entry t n) (p .is-index) in omega (arith, low i hi)
+
 figures-short : (n : ℕ) (t : List ℤ) (f : Figures) → Sound n t [] → FiguresOf n t f → AllShort (sections f)
 figures-short n t f h p =
     let few = sized (h .in-size) .1 in
     let w = found-within t (f .adds) (f .stars) (f .heads) few (h .square .square) (h .entries) (p .solution) in
-    let x = p .is-index in
     let adds = numbers-short "adds" (f .adds) (omega arith) (omega (arith, p .adds-long))
     (λ k i. omega (arith, w .addition-most k (omega (arith, p .adds-long)))) in
     let stars = numbers-short "stars" (f .stars) (omega arith) (omega (arith, p .star-list .long))
@@ -122,7 +127,7 @@ figures-short n t f h p =
     let sum = integers-short "sum" (f .sum ∷ []) (omega arith) (omega arith)
     (only (Order widest) (f .sum) (pos 0) (record { low = omega (arith, signs, w .sum-least); high = omega (arith, signs, w .sum-most) })) in
     let index = numbers-short "index" (f .index ∷ []) (omega arith) (omega arith)
-    (only (λ v. v ≤ widest) (f .index) 0 (omega (arith, x .is, w .addition-most (x .row) (x .inside)))) in
+    (only (λ v. v ≤ widest) (f .index) 0 (figure-small n t f p (w .addition-most))) in
     adds also stars also heads also ties also sum also index also none
 
 none-printed : printed (refuses 6 []) ≡ ascii "refused 6\n"

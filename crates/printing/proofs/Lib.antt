@@ -2,7 +2,6 @@ pub mod Fits
 pub mod Saying
 pub mod Copying
 pub mod Inputs
-pub mod Figures
 pub mod Unique
 pub mod Demands
 pub mod Shown

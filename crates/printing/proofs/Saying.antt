@@ -12,7 +12,7 @@ use lib.Seq.{take-at, getD-take, length-take-le}
 use Rattle.theory.specs.Limits.{row-limit}
 use Rattle.theory.specs.Lists.{nums}
 use Rattle.theory.specs.Table.{entry}
-use Rattle.theory.specs.Canon.{NoTransversal, Ties}
+use Rattle.theory.specs.Canon.{NoTransversal, Ties, Index}
 use Rattle.theory.proofs.Ties.{head-holders, holders-same}
 use Rattle.orders.specs.declared.Refusal.{Refusal}
 use Rattle.orders.specs.declared.Tops.{Tops}
@@ -34,8 +34,8 @@ use Rattle.reader.proofs.PromiseLaws.{lengths-right}
 use Rattle.reader.specs.declared.Read.{Read}
 use Rattle.reader.specs.declared.Read.the-variants as read
 use Rattle.page.specs.Printed.{Figures, figures}
+use Rattle.index_figure.specs.Parts.{HeadsKnown, IndexOf}
 use Rattle.printing.specs.Promise.{TableSays, no-transversal, solved, SheetSays, too-long, wrong-line, of-table, Prints}
-use Rattle.printing.specs.Parts.{Largest}
 use Rattle.printing.proofs.Fits.{stands-sound}
 
 -- ---- the solver
@@ -86,8 +86,8 @@ module _ {n : ℕ} {t : List ℤ} {a s a′ s′ : List ℕ} {z z′ : List ℤ}
       rw (getD-take n (tops .counts) j 0 hj)
       (holders-same n (entry t n) (λ i hi. List·getD-append a′ b 0 i (omega (arith, solved-sized .adds-long))) (head-holders n (entry t n) (o j hj)))
 
-  -- The figures that the solver wrote, the ties, and the largest of the additions, are those of the table.
-  solved-says : (c : List ℕ) (v : ℤ) (x : ℕ) → r ≡ Sum v → length c ≡ n → Ties n (entry t n) (nums a′) (nums c) → Largest a′ x
+  -- The figures that the solver wrote, the ties, and the index figure of the additions, are those of the table.
+  solved-says : (c : List ℕ) (v : ℤ) (x : ℕ) → r ≡ Sum v → length c ≡ n → Ties n (entry t n) (nums a′) (nums c) → IndexOf t a′ x
       → TableSays n t (gives (figures a′ s′ z′ c v x))
   solved-says c v x q lc o m = go p
     where
@@ -102,18 +102,28 @@ module _ {n : ℕ} {t : List ℤ} {a s a′ s′ : List ℕ} {z z′ : List ℤ}
             ties-long = lc;
             solution = rw (given-once w v (sym e ∙ ap said q)) at f;
             is-ties = o;
-            is-index =
-                record {
-                  row = m .row;
-                  inside = omega (arith, m .inside);
-                  is = m .is;
-                  largest = λ i hi. m .largest i (omega arith);
-                };
+            is-index = rw la at m;
           }) refl
+
+  -- The index figure can be worked out from the table, the additions and the heads, which stand at the front of arrays.
+  pub solved-known : (b : List ℕ) (d : List ℤ) (v : ℤ) → r ≡ Sum v → HeadsKnown t (take n (a′ ++ b)) (take n (z′ ++ d))
+  solved-known b d v q = rw (take-at a′ b n (solved-sized .adds-long), take-at z′ d n (solved-sized .heads-long)) (go p)
+    where
+      go : Solves n t a s z r a′ s′ z′ → HeadsKnown t a′ z′
+      go (refused k low e ea es ez) = not-both v k [] (sym (ap said q) ∙ e)
+      go (answered w c e la st lz f) =
+          let found = found-within t a′ s′ z′ (sized (h .in-size) .1) (h .square .square) (h .entries) f in
+          record {
+            some = omega (arith, sized (h .in-size) .0);
+            square = h .square .square ∙ ap (λ i. i * i) (sym la);
+            heads-long = lz ∙ sym la;
+            heads = rw la (f .heads);
+            low = λ i hi. omega (arith, found .addition-most i (omega arith));
+          }
 
   -- they stand at the front of arrays
   pub front-says : (b c : List ℕ) (d : List ℤ) (tops : Tops) (v : ℤ) (x : ℕ) → r ≡ Sum v → TopsOf t n (a′ ++ b) tops → n ≤ length (tops .counts)
-      → Largest (take n (a′ ++ b)) x
+      → IndexOf t (take n (a′ ++ b)) x
       → TableSays n t (gives (figures (take n (a′ ++ b)) (take n (s′ ++ c)) (take n (z′ ++ d)) (take n (tops .counts)) v x))
   front-says b c d tops v x q o inside m =
       let w = solved-sized in

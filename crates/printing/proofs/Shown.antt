@@ -1,5 +1,5 @@
--- For the pendulum's sheet the promise of printing leaves one answer open: document 01's with request 1's ties, byte by byte. Assumes
--- nothing.
+-- For the pendulum's sheet the promise of printing leaves one answer open: document 01's with request 1's ties and request 2's figure, byte by
+-- byte. Assumes nothing.
 use mathlib.Core.Path.{_≡_, refl, sym, ap, _∙_}
 use mathlib.Core.Logic.{_≢_}
 use mathlib.Core.Bool.{Bool, _&&_}
@@ -14,7 +14,7 @@ use Rattle.theory.specs.Canon.{Maximum, Ties, Index}
 use Rattle.theory.specs.Cases.{Right, nothing, answer, pendulum}
 use Rattle.theory.specs.Table.{absent, Present, entry}
 use Rattle.theory.specs.Lists.{nums, ints}
-use Rattle.theory.proofs.Cases.{cases-right}
+use Rattle.theory.proofs.Cases.{cases-right, index-right}
 use Rattle.theory.proofs.Duality.{head-maximum}
 use Rattle.theory.proofs.Signed.{signed}
 use Rattle.theory.proofs.Search.{all, all-told, both, every, every-told}
@@ -37,7 +37,7 @@ drawn =
     }
 
 abbrev shown : Figures
-shown = figures (0 ∷ 0 ∷ 2 ∷ []) (1 ∷ 3 ∷ 2 ∷ []) (pos 2 ∷ pos 2 ∷ pos 0 ∷ []) (2 ∷ 2 ∷ 2 ∷ []) (pos 2) 2
+shown = figures (0 ∷ 0 ∷ 2 ∷ []) (1 ∷ 3 ∷ 2 ∷ []) (pos 2 ∷ pos 2 ∷ pos 0 ∷ []) (2 ∷ 2 ∷ 2 ∷ []) (pos 2) 3
 
 -- both are computed: the one sheet of the labelled table, and the printed figures
 sheet-is : sheetOf drawn ≡ pendulum-sheet
@@ -117,14 +117,9 @@ stands =
       entries-stand = right .entries;
     }
 
-index : Index 3 (entry pendulum 3) (nums (shown .adds)) 2
-index = record { row = 2; inside = omega arith; is = refl; largest = most }
-  where
-    most : (i : ℕ) → i < 3 → nums (shown .adds) i ≤ 2
-    most zero h = omega arith
-    most (suc zero) h = omega arith
-    most (suc (suc zero)) h = omega arith
-    most (suc (suc (suc i))) h = absurd (omega arith)
+-- the worked figure, as it is proved in the theory
+index : Index 3 (entry pendulum 3) (nums (shown .adds)) 3
+index = index-right .0
 
 -- Every column has one absent place, and its two orders hold the head: raised by 0 0 2 the rows are 2 - 0 / - 2 0 / 2 2 -.
 ties : Ties 3 (entry pendulum 3) (nums (shown .adds)) (nums (shown .ties))

@@ -9,7 +9,8 @@ use lib.Seq.{ext-getD}
 use Rattle.theory.specs.Lists.{nums, columns, StarList}
 use Rattle.theory.specs.Table.{entry}
 use Rattle.theory.specs.Canon.{NoTransversal}
-use Rattle.theory.proofs.Unique.{solution-once, index-once}
+use Rattle.theory.proofs.Index.{index-once}
+use Rattle.theory.proofs.Unique.{solution-once}
 use Rattle.theory.proofs.Ties.{ties-once}
 use Rattle.orders.specs.Refusals.{numberOf, valuesOf, Said, gives, refuses}
 use Rattle.orders.proofs.Refusals.{refusal-once, given-once, not-both}

@@ -1,6 +1,5 @@
--- Promise, Room, Shown and Demands are what the customer must believe; Parts is what the functions inside tell each other.
+-- What the customer must believe.
 pub mod Room
 pub mod Shown
 pub mod Promise
 pub mod Demands
-pub mod Parts

@@ -23,8 +23,7 @@ abbrev pub says : Printed → Said ℕ
 says (Bytes n) = gives n
 says (Refused r) = refusal r
 
--- the figures of a table of n rows: its simplest canon, the stars, the heads and the sum, and "the index figure is the largest
--- addition"
+-- the figures of a table of n rows: its simplest canon, the stars, the heads and the sum
 pub record FiguresOf (n : ℕ) (t : List ℤ) (f : Figures) : Type 0 where
   pub adds-long : length (f .adds) ≡ n
   pub star-list : StarList n (f .stars)
@@ -33,6 +32,7 @@ pub record FiguresOf (n : ℕ) (t : List ℤ) (f : Figures) : Type 0 where
   pub solution : Solution n (entry t n) (λ i. 0) (nums (f .adds)) (columns (f .stars)) (ints (f .heads)) (f .sum)
   -- document 02, request 1: "how many rows" hold each head under these additions, "one count a column"
   pub is-ties : Ties n (entry t n) (nums (f .adds)) (nums (f .ties))
+  -- request 2: "the figure follows Pryce, but a table with a negative order keeps the largest addition"
   pub is-index : Index n (entry t n) (nums (f .adds)) (f .index)
 
 -- what the answer of a table says: its figures, or that "no complete transversal exists"

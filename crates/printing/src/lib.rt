@@ -3,10 +3,10 @@ ghost use Prim.Native.Nat.{_≤_};
 ghost use lib.ListN.{length};
 ghost use Rattle.handed.specs.Handed.{Sound};
 ghost use Rattle.printing.specs.Room.{enough};
-ghost use Rattle.printing.specs.Parts.{Largest};
 ghost use Rattle.printing.specs.Promise.{says, TableSays, SheetSays, Prints, PrintPromise, InputPromise};
 use canon::Answer;
 use canon::solve;
+use index_figure::index;
 use lettering::put;
 use lines::LABELS;
 use orders::PLACES;
@@ -39,22 +39,6 @@ pub enum Printed {
     Refused(Refusal),
 }
 
-// The index figure: the largest addition. Rules out a number that is no addition, and one that an addition exceeds.
-fn largest(adds: &[u32]) -> u32
-    requires { ⌜ 1 ≤ length (now adds) ⌝ }
-    ensures { λ r. ⌜ Largest (now (adds .entry)) r ⌝ }
-{
-    let mut most = adds[0];
-    let mut i = 1;
-    while i < adds.len() {
-        if most < adds[i] {
-            most = adds[i];
-        }
-        i += 1;
-    }
-    most
-}
-
 // The answer of a table; the ties are counted under the additions found. Rules out figures where no complete transversal exists, and a
 // refusal where one does.
 fn put_table(n: usize, table: &[i16], page: &mut [u8]) -> usize
@@ -69,14 +53,14 @@ fn put_table(n: usize, table: &[i16], page: &mut [u8]) -> usize
         Answer::Sum(sum) => {
             let tops = orders::heads(table, n, &adds);
             let ties = tops.counts;
-            let index = largest(&adds[..n]);
+            let figure = index(table, &adds[..n], &heads[..n]);
             put_figures(
                 &adds[..n],
                 &stars[..n],
                 &heads[..n],
                 &ties[..n],
                 sum,
-                index,
+                figure,
                 page,
             )
         }

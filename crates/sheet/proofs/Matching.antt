@@ -17,8 +17,8 @@ use Rattle.sheet.specs.Reading.{good, tableOf, Reads, done}
 use Rattle.sheet.proofs.Slots.{labels-none, labels-more, labels-new, labels-form, length-more}
 use Rattle.sheet.proofs.Lines.{rank}
 use Rattle.sheet.proofs.Orders.{absent-is, absent-not, order-present, lines-append, lines-absent, lines-one, count-append}
-use Rattle.orders.proofs.Places.{cell}
-use Rattle.sheet.proofs.Orders.{count-absent, count-one, count-le, place-row, place-col, row-inside, col-inside, row-col}
+use Rattle.orders.proofs.Places.{cell, place-row, place-col, row-inside, col-inside, row-col}
+use Rattle.sheet.proofs.Orders.{count-absent, count-one, count-le}
 use Rattle.sheet.proofs.Orders.{entries-none, entries-append, entries-right, entries-absent, entries-one}
 use Rattle.sheet.proofs.Once.{good-once}
 use Rattle.sheet.proofs.Runs.{Run, none, then, run-append, run-reads, Halt, at-end, at-fault, Course, course}

@@ -4,8 +4,6 @@ use mathlib.Core.Bool.{Bool, true, false, cond}
 use mathlib.Core.List.{List, [], _∷_, _++_, append-assoc, append-nil}
 use Prim.Native.Nat.{ℕ, zero, suc, _+_, _-_, _*_, _/_, _%_, _<_, _≤_}
 use native.Mathlib.Omega.{arith}
-use native.Mathlib.Decide.{ℕ-discrete}
-use native.Mathlib.Nat.{mul-add-div-right, div-eq-of-lt, mul-add-mod-self-right, mod-eq-of-lt, div-add-mod', div-lt-iff-lt-mul, mod-lt}
 use borrow.Author.Tests.{ne-eqb, eqb-true}
 use lib.IntN.{ℤ, pos, negsuc}
 use lib.ListN.{length, getD, replicate, length-append, length-replicate, List·getD-append, getD-replicate}
@@ -109,28 +107,6 @@ count-le (v ∷ e) = go (isAbsent v) (count-le e)
     go : (t : Bool) → presentCount e ≤ length e → cond t (presentCount e) (suc (presentCount e)) ≤ suc (length e)
     go true h = omega arith
     go false h = omega arith
-
--- the place of row i and column j
-module _ (n i j : ℕ) (inside : j < n) where
-  pub place-row : (i * n + j) / n ≡ i
-  place-row = mul-add-div-right {m = n} (omega arith) i j ∙ omega (arith, div-eq-of-lt {n = j} {m = n} inside)
-
-  pub place-col : (i * n + j) % n ≡ j
-  place-col = mul-add-mod-self-right i n j ∙ mod-eq-of-lt {n = j} {m = n} inside
-
--- the row and the column of place p
-module _ (n p : ℕ) (inside : p < n * n) where
-  pub some-row : 0 < n
-  some-row = elim (ℕ-discrete n 0) [ yes e ↦ absurd (let h : n * n ≡ 0 = rw e in omega arith) | no ne ↦ omega arith ]
-
-  pub row-inside : p / n < n
-  row-inside = div-lt-iff-lt-mul {k = n} {x = p} {y = n} some-row .1 inside
-
-  pub col-inside : p % n < n
-  col-inside = mod-lt p {m = n} some-row
-
-  pub row-col : p / n * n + p % n ≡ p
-  row-col = div-add-mod' p n
 
 -- entries in two parts stand if both do
 pub entries-none : Entries order-limit []

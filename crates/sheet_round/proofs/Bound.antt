@@ -10,10 +10,11 @@ use lib.ListN.{length, length-append}
 use Rattle.theory.specs.Limits.{row-limit, order-limit, sheet-limit}
 use Rattle.theory.specs.Table.{Present, Order, Entries}
 use Rattle.theory.proofs.Signed.{signed as signs}
+use Rattle.orders.proofs.Places.{row-inside, col-inside}
 use Rattle.sheet.specs.Text.{feed, digits, text, signed, ended, rowsHead, colsHead, ordersHead}
 use Rattle.sheet.specs.Sheet.{Labelled, Stands, endedLines, isAbsent, presentCount, orderLines, countedLines, sheetOf}
 use Rattle.sheet.proofs.Numbers.{text-mono}
-use Rattle.sheet.proofs.Orders.{sheet-bytes, count-le, absent-not, row-inside, col-inside, entries-right}
+use Rattle.sheet.proofs.Orders.{sheet-bytes, count-le, absent-not, entries-right}
 use Rattle.sheet.proofs.Slots.{Short, short-tail, labels-short}
 use Rattle.labels.specs.Parts.{label-most}
 use Rattle.order_lines.specs.Parts.{orderBytes, entryBytes}

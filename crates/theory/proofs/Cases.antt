@@ -14,11 +14,12 @@ use lib.Signed.{_≤ℤ_, leZ, ltZ, leZ-yes, ltZ-yes, ≤ℤ-refl}
 use Rattle.theory.specs.Totals.{total, Count, none, one-more, passed-over}
 use Rattle.theory.specs.Limits.{row-limit, order-limit, addition-limit}
 use Rattle.theory.specs.Lists.{nums, ints, flags, columns, StarList}
-use Rattle.theory.specs.Table.{absent, Present, Order, entry}
+use Rattle.theory.specs.Table.{absent, Present, Negative, Order, entry}
 use Rattle.theory.specs.Canon.{Transversal, SomeTransversal, NoTransversal, raised, Maximum, OfMaxima, Canon, Heads, ColumnHead, held, empty, Before, sum}
-use Rattle.theory.specs.Canon.{Misplaced, exceeded, Solution}
+use Rattle.theory.specs.Canon.{Misplaced, exceeded, Solution, LargestAddition, SomeHeadZero, SomeNegative, plus-one, alone, Index, follows, keeps}
 use Rattle.theory.specs.Cases.{Handed, nothing, additions, stars, Outcome, answer, refusal6, refusal7, refusal8}
 use Rattle.theory.specs.Cases.{Case, Answerable, RefusedBy7, RefusedBy8, Comes, Right, Every, cases, ColumnCase, EveryColumns, column-cases}
+use Rattle.theory.specs.Cases.{IndexCase, EveryIndex, index-cases}
 use Rattle.theory.specs.Paths.{itself}
 use Rattle.theory.proofs.Pigeonhole.{onto}
 use Rattle.theory.proofs.Signed.{signed}
@@ -501,3 +502,111 @@ columns-told (c ∷ cs) t =
 pub columns-right : EveryColumns column-cases
 unfolding columns-tests columns-test column-tests counted one-if maximum implies present same every all
 columns-right = columns-told column-cases tt
+
+-- ---- the worked figures of request 2
+negative : ℤ → Bool
+negative v = present v && ltZ v (pos 0)
+
+negative-told : (v : ℤ) → T (negative v) → Negative v
+unfolding negative
+negative-told v t = let (p, q) = both (present v) (ltZ v (pos 0)) t in (present-told v p, ltZ-yes q)
+
+negative-tells : (v : ℤ) → Negative v → T (negative v)
+unfolding negative
+negative-tells v (p, q) = and-both (present v) (ltZ v (pos 0)) (present-tells v p) (q .lt)
+
+module _ (n : ℕ) (a : ℕ → ℕ → ℤ) where
+  -- some order is negative
+  some-negative : Bool
+  some-negative = some n (λ i. some n (λ j. negative (a i j)))
+
+  negative-order-told : T some-negative → SomeNegative n a
+  unfolding some-negative
+  negative-order-told t =
+      let (i, hi, u) = some-told n (λ i. some n (λ j. negative (a i j))) t in
+      let (j, hj, v) = some-told n (λ j. negative (a i j)) u in
+      record { row = i; column = j; row-inside = hi; column-inside = hj; negative = negative-told (a i j) v }
+
+  negative-order-tells : SomeNegative n a → T some-negative
+  unfolding some-negative
+  negative-order-tells s =
+      some-tells n (λ i. some n (λ j. negative (a i j))) (s .row) (s .row-inside)
+      (some-tells n (λ j. negative (a (s .row) j)) (s .column) (s .column-inside) (negative-tells _ (s .negative)))
+
+  module _ (l : ℕ → ℕ) where
+    -- some head is 0
+    zero-at : ℕ → ℕ → Bool
+    zero-at j i = maximum n a l i j && same (pos 0) (raised n a l i j)
+
+    some-head-zero : Bool
+    some-head-zero = some n (λ j. some n (zero-at j))
+
+    head-zero-told : T some-head-zero → SomeHeadZero n a l
+    unfolding some-head-zero zero-at
+    head-zero-told t =
+        let (j, hj, u) = some-told n (λ j. some n (zero-at j)) t in
+        let (i, hi, v) = some-told n (zero-at j) u in
+        let (m, e) = both (maximum n a l i j) (same (pos 0) (raised n a l i j)) v in
+        record {
+          column = j;
+          inside = hj;
+          head = record { row = i; inside = hi; maximum = maximum-told n a l i j m; is = same-told (pos 0) (raised n a l i j) e };
+        }
+
+    head-zero-tells : SomeHeadZero n a l → T some-head-zero
+    unfolding some-head-zero zero-at
+    head-zero-tells z =
+        let j = z .column in
+        let i = z .head .row in
+        some-tells n (λ j. some n (zero-at j)) j (z .inside)
+        (some-tells n (zero-at j) i (z .head .inside)
+        (and-both (maximum n a l i j) (same (pos 0) (raised n a l i j)) (maximum-tells n a l i j (z .head .maximum))
+        (same-tells (pos 0) (raised n a l i j) (z .head .is))))
+
+    -- the largest addition
+    largest : ℕ → Bool
+    largest x = some n (λ i. eqb x (l i)) && all n (λ i. leb (l i) x)
+
+    largest-told : (x : ℕ) → T (largest x) → LargestAddition n l x
+    unfolding largest
+    largest-told x t =
+        let (p, q) = both (some n (λ i. eqb x (l i))) (all n (λ i. leb (l i) x)) t in
+        let (i, hi, e) = some-told n (λ i. eqb x (l i)) p in
+        record { row = i; inside = hi; is = eqb→eq x (l i) e; largest = λ k hk. leb→le (l k) x (all-told n (λ i. leb (l i) x) q k hk) }
+
+    -- whether some order is negative, whether some head is 0, and the figure
+    figure : Bool → Bool → ℕ → Bool
+    figure true z x = largest x
+    figure false false x = largest x
+    figure false true zero = false
+    figure false true (suc most) = largest most
+
+    figure-told : (b z : Bool) (x : ℕ) → some-negative ≡ b → some-head-zero ≡ z → T (figure b z x) → Index n a l x
+    unfolding figure
+    figure-told true z x p q t = keeps (negative-order-told (rw p tt)) (largest-told x t)
+    figure-told false false x p q t =
+        follows (λ s. rw p at (negative-order-tells s)) (alone (λ s. rw q at (head-zero-tells s)) (largest-told x t))
+    figure-told false true (suc most) p q t =
+        follows (λ s. rw p at (negative-order-tells s)) (plus-one most (head-zero-told (rw q tt)) (largest-told most t) (omega arith))
+
+-- the figure of a case, and the figures of all
+index-test : IndexCase → Bool
+index-test c =
+    let a = entry (c .table) (c .size) in
+    figure (c .size) a (nums (c .adds)) (some-negative (c .size) a) (some-head-zero (c .size) a (nums (c .adds))) (c .figure)
+
+index-tests : List IndexCase → Bool
+index-tests [] = true
+index-tests (c ∷ cs) = index-test c && index-tests cs
+
+index-told : (cs : List IndexCase) → T (index-tests cs) → EveryIndex cs
+unfolding index-tests index-test
+index-told [] t = tt
+index-told (c ∷ cs) t =
+    let (p, q) = both (index-test c) (index-tests cs) t in
+    (figure-told (c .size) (entry (c .table) (c .size)) (nums (c .adds)) _ _ (c .figure) refl refl p, index-told cs q)
+
+-- every worked figure is right: the test of the whole list is computed here
+pub index-right : EveryIndex index-cases
+unfolding index-tests index-test figure largest some-head-zero zero-at some-negative negative maximum implies present same every all some
+index-right = index-told index-cases tt

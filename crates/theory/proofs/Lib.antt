@@ -5,6 +5,7 @@ pub mod Counts
 pub mod Duality
 pub mod Lattice
 pub mod Unique
+pub mod Index
 pub mod Paths
 pub mod Bounds
 pub mod Search

@@ -5,7 +5,7 @@ use Prim.Native.Nat.{ℕ, zero, suc, _<_}
 use native.Mathlib.Decide.{decLt}
 use native.Mathlib.Omega.{arith}
 use lib.IntN.{ℤ}
-use Rattle.theory.specs.Canon.{Transversal, Maximum, OfMaxima, Canon, LeastFrom, Head, Heads, Stars, sum, Index, Misplaced, on-absent, exceeded, Solution}
+use Rattle.theory.specs.Canon.{Transversal, Maximum, OfMaxima, Canon, LeastFrom, Head, Heads, Stars, sum, Misplaced, on-absent, exceeded, Solution}
 use Rattle.theory.proofs.Totals.{total-sameℤ}
 use Rattle.theory.proofs.Duality.{maxima-everywhere, head-once}
 
@@ -92,18 +92,6 @@ module _ (n : ℕ) (a : ℕ → ℕ → ℤ) where
 
   pub heads-once : {l m : ℕ → ℕ} {h k : ℕ → ℤ} → Same l m → Heads n a l h → Heads n a m k → Same h k
   heads-once e s t j hj = head-once n a (head-same e (s j hj)) (t j hj)
-
-  pub index-once : {l m : ℕ → ℕ} {x y : ℕ} → Same l m → Index n a l x → Index n a m y → x ≡ y
-  index-once e s t =
-      omega (
-        arith,
-        s .is,
-        t .is,
-        s .largest (t .row) (t .inside),
-        t .largest (s .row) (s .inside),
-        e (s .row) (s .inside),
-        e (t .row) (t .inside),
-      )
 
   -- what is said of additions, stars and heads is said of any that agree with them in the rows and columns
   pub least-same : {start l m : ℕ → ℕ} → Same l m → LeastFrom n a start l → LeastFrom n a start m

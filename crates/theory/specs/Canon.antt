@@ -5,11 +5,18 @@ use Prim.Native.Nat.{ℕ, _+_, _≤_, _<_}
 use lib.IntN.{ℤ, pos, _+ℤ_, _-ℤ_}
 use lib.Signed.{_≤ℤ_, _<ℤ_}
 use Rattle.theory.specs.Totals.{total, totalℕ, Count}
-use Rattle.theory.specs.Table.{absent, Present}
+use Rattle.theory.specs.Table.{absent, Present, Negative}
 
 -- l is at most m in every row
 abbrev pub AtMost : ℕ → (ℕ → ℕ) → (ℕ → ℕ) → Type 0
 AtMost n l m = (i : ℕ) → i < n → l i ≤ m i
+
+-- x is "the largest addition" of n rows
+pub record LargestAddition (n : ℕ) (l : ℕ → ℕ) (x : ℕ) : Type 0 where
+  pub row : ℕ
+  pub inside : row < n
+  pub is : x ≡ l row
+  pub largest : (i : ℕ) → i < n → l i ≤ x
 
 module _ (n : ℕ) (a : ℕ → ℕ → ℤ) where
   -- "A complete transversal takes one present order from each row, no two in one column." Row i's order is in column σ i.
@@ -107,12 +114,30 @@ module _ (n : ℕ) (a : ℕ → ℕ → ℤ) where
   abbrev pub sum : (ℕ → ℕ) → ℤ
   sum σ = total n (λ i. a i (σ i))
 
-  -- "The index figure is the largest addition."
-  pub record Index (l : ℕ → ℕ) (x : ℕ) : Type 0 where
+  -- ---- the index figure: document 02, request 2
+  -- "some column head is 0"
+  pub record SomeHeadZero (l : ℕ → ℕ) : Type 0 where
+    pub column : ℕ
+    pub inside : column < n
+    pub head : Head l column (pos 0)
+
+  -- "a table with a negative order"
+  pub record SomeNegative : Type 0 where
     pub row : ℕ
-    pub inside : row < n
-    pub is : x ≡ l row
-    pub largest : (i : ℕ) → i < n → l i ≤ x
+    pub column : ℕ
+    pub row-inside : row < n
+    pub column-inside : column < n
+    pub negative : Negative (a row column)
+
+  -- "Pryce's structural index .. is the largest addition, plus one when some column head is 0."
+  pub data StructuralIndex (l : ℕ → ℕ) (x : ℕ) : Type 0 where
+    plus-one : (most : ℕ) → SomeHeadZero l → LargestAddition n l most → x ≡ most + 1 → StructuralIndex l x
+    alone : (SomeHeadZero l → ⊥) → LargestAddition n l x → StructuralIndex l x
+
+  -- "From now on the figure follows Pryce, but a table with a negative order keeps the largest addition."
+  pub data Index (l : ℕ → ℕ) (x : ℕ) : Type 0 where
+    follows : (SomeNegative → ⊥) → StructuralIndex l x → Index l x
+    keeps : SomeNegative → LargestAddition n l x → Index l x
 
   -- "a transversal of greatest sum"
   pub record Greatest (σ : ℕ → ℕ) : Type 0 where

@@ -8,7 +8,7 @@ use lib.ListN.{length}
 use Rattle.theory.specs.Limits.{row-limit, order-limit, addition-limit}
 use Rattle.theory.specs.Lists.{nums, ints, columns, StarList}
 use Rattle.theory.specs.Table.{absent, entry, Entries}
-use Rattle.theory.specs.Canon.{SomeTransversal, NoTransversal, Canon, ColumnHead, Greatest, Misplaced, Solution}
+use Rattle.theory.specs.Canon.{SomeTransversal, NoTransversal, Canon, ColumnHead, Index, Greatest, Misplaced, Solution}
 
 -- what is handed in beside the table
 pub data Handed : Type 0 where
@@ -183,4 +183,43 @@ column-cases =
     ∷ columns-of 3 pendulum (0 ∷ 0 ∷ 2 ∷ []) (o 2 ∷ o 2 ∷ o 0 ∷ []) (1 ∷ 2 ∷ 1 ∷ []) (2 ∷ 2 ∷ 2 ∷ [])
     -- `-3`
     ∷ columns-of 1 (m 3 ∷ []) (0 ∷ []) (m 3 ∷ []) (1 ∷ []) (1 ∷ [])
+    ∷ []
+
+-- ---- document 02, request 2: the index figure of some tables, under the additions of their simplest canons
+pub record IndexCase : Type 0 where
+  pub size : ℕ
+  pub table : List ℤ
+  pub adds : List ℕ
+  pub figure : ℕ
+
+-- the one statement
+abbrev pub IndexRight : IndexCase → Type 0
+IndexRight c = Index (c .size) (entry (c .table) (c .size)) (nums (c .adds)) (c .figure)
+
+abbrev pub EveryIndex : List IndexCase → Type 0
+EveryIndex [] = Unit
+EveryIndex (c ∷ cs) = IndexRight c × EveryIndex cs
+
+abbrev index-of : ℕ → List ℤ → List ℕ → ℕ → IndexCase
+index-of n t l x = record { size = n; table = t; adds = l; figure = x }
+
+abbrev pub index-cases : List IndexCase
+index-cases =
+    -- the pendulum, heads 2 2 0: "every textbook says 3". Its absent places are not negative
+    index-of 3 pendulum (0 ∷ 0 ∷ 2 ∷ []) 3
+    -- one row: an order 0, 1, −1
+    ∷ index-of 1 (o 0 ∷ []) (0 ∷ []) 1
+    ∷ index-of 1 (o 1 ∷ []) (0 ∷ []) 0
+    ∷ index-of 1 (m 1 ∷ []) (0 ∷ []) 0
+    -- `5 0 / 5 0`, heads 5 0
+    ∷ index-of 2 (o 5 ∷ o 0 ∷ o 5 ∷ o 0 ∷ []) (0 ∷ 0 ∷ []) 1
+    -- `5 0 / -1 0`: the same heads, and a negative order where no star and no maximum stands
+    ∷ index-of 2 (o 5 ∷ o 0 ∷ m 1 ∷ o 0 ∷ []) (0 ∷ 0 ∷ []) 0
+    -- `0 100 / -100 -100`, heads 0 100
+    ∷ index-of 2 (o 0 ∷ o 100 ∷ m 100 ∷ m 100 ∷ []) (0 ∷ 100 ∷ []) 100
+    -- `-5 - / - 0`, heads −5 0, and `-5 - / - 3`, heads −5 3
+    ∷ index-of 2 (m 5 ∷ x ∷ x ∷ o 0 ∷ []) (0 ∷ 0 ∷ []) 0
+    ∷ index-of 2 (m 5 ∷ x ∷ x ∷ o 3 ∷ []) (0 ∷ 0 ∷ []) 0
+    -- `5 0 0 / 5 0 0 / 0 1 1`, heads 6 1 1: orders are 0, and no head is
+    ∷ index-of 3 (o 5 ∷ o 0 ∷ o 0 ∷ o 5 ∷ o 0 ∷ o 0 ∷ o 0 ∷ o 1 ∷ o 1 ∷ []) (1 ∷ 1 ∷ 0 ∷ []) 1
     ∷ []

@@ -4,7 +4,7 @@ use mathlib.Core.List.{List}
 use Prim.Native.Nat.{ℕ, _+_, _*_, _<_}
 use lib.IntN.{ℤ, pos, negsuc, negℤ}
 use lib.ListN.{getD, length}
-use lib.Signed.{_≤ℤ_}
+use lib.Signed.{_≤ℤ_, _<ℤ_}
 
 -- "−32768 means absent: the unknown doesn't occur."
 abbrev pub absent : ℤ
@@ -13,6 +13,10 @@ absent = negsuc 32767
 -- "Absent is not 0, and not a small order. Every other value is an order."
 abbrev pub Present : ℤ → Type 0
 Present v = v ≢ absent
+
+-- "a negative order": one below 0. Absent is no order, and so not negative.
+abbrev pub Negative : ℤ → Type 0
+Negative v = Present v × (v <ℤ pos 0)
 
 -- "The table comes row by row in one lent slice": what stands in row i and column j of the table of n rows. (Past the list's end it
 -- is 0; the length is tested before a place is read.)

@@ -7,7 +7,7 @@ use lib.ListN.{length}
 use mir.Facts.{toZ-ofZ}
 use Rattle.lettering.proofs.TextLaws.{number-short}
 use Rattle.sheet.specs.Text.{signed}
-use Rattle.sheet.proofs.Orders.{some-row}
+use Rattle.orders.proofs.Places.{some-row}
 use Rattle.order_lines.specs.Parts.{number-most, value-most}
 use Rattle.order_lines.proofs.OrderLaws.{absent-bits-is, absent-bits-not, line-absent, present-length, row-fits, col-fits}
 use Rattle.order_lines.proofs.order_length.Statement.{statement}

@@ -8,7 +8,7 @@ use lib.ListN.{length}
 use mir.Facts.{toZ-ofZ}
 use Rattle.lettering.proofs.PutLaws.{puts-none, puts-same, first-room, FirstPut, tail-inside, tail-room, total-fits, both-put}
 use Rattle.sheet.specs.Text.{blank, text}
-use Rattle.sheet.proofs.Orders.{some-row}
+use Rattle.orders.proofs.Places.{some-row}
 use Rattle.order_lines.specs.Parts.{entryBytes, orderEnd}
 use Rattle.order_lines.proofs.OrderLaws.{absent-bits-is, absent-bits-not, line-absent, line-parts, row-fits}
 use Rattle.order_lines.proofs.put_order.Statement.{statement}

@@ -19,7 +19,7 @@ use Rattle.handed.proofs.Basics.{sized}
 use Rattle.page.specs.Printed.{figures}
 use Rattle.printing.specs.Promise.{TableSays}
 use Rattle.printing.proofs.Fits.{table-fits}
-use Rattle.printing.proofs.Saying.{Sized, solved-sized, solved-low, front-says, refused-says, front-inside}
+use Rattle.printing.proofs.Saying.{Sized, solved-sized, solved-low, solved-known, front-says, refused-says, front-inside}
 use Rattle.printing.proofs.put_table.Statement.{statement}
 use Rattle.printing.proofs.put_table.Tie as tie
 
@@ -90,22 +90,22 @@ long : (c : tie.After-heads3) → Long (tops c .heads) × Long (tops c .rows) ×
 long c = search needs
 
 -- that search, seen from where the index figure is known
-abbrev counting : tie.After-largest → tie.After-heads3
-counting c = c .before .before .before
+abbrev counting : tie.After-index → tie.After-heads3
+counting c = c .before .before .before .before
 
-abbrev sum : tie.After-largest → ℤ
+abbrev sum : tie.After-index → ℤ
 sum c = counting c .before .before .before .answer .given .0 .0
 
-found : (c : tie.After-largest) → let d = counting c in let q = solving d in let n = start q .args .n in
+found : (c : tie.After-index) → let d = counting c in let q = solving d in let n = start q .args .n in
     TableSays n (start q .args .table .now)
-    (gives (figures (take n (adds q)) (take n (stars q)) (take n (heads q)) (take n (tops d .counts)) (toZ w32 (ofZ w32 (sum c))) (c .largest .result)))
+    (gives (figures (take n (adds q)) (take n (stars q)) (take n (heads q)) (take n (tops d .counts)) (toZ w32 (ofZ w32 (sum c))) (c .index .result)))
 found c =
     let d = counting c in
     let q = solving d in
     let f : SFits w32 (sum c) = search needs in
     rw (toZ-ofZ f)
     (front-says (start q .pre .0) (lent (start q)) (q .solve .ensures) _ _ _ (tops d) _ _ (d .before .before .before .answer .given .1)
-    (d .heads3 .ensures) (omega (arith, few (start q), long d .2)) (c .largest .ensures))
+    (d .heads3 .ensures) (omega (arith, few (start q), long d .2)) (c .index .ensures))
 
 -- or there are none
 none : (c : tie.After-answer2) → let s = start (c .before .before .before .before .before) in
@@ -144,15 +144,22 @@ heads-requires c κs =
     (start q .pre .0 .square, solved-low (start q .pre .0) (lent (start q)) (q .solve .ensures) _ _ (c .before .before .answer .given .1))
 
 array-share-prefix-adds : tie.Need-array-share-prefix-adds
-array-share-prefix-adds c = adds-inside (c .before .before .before .before .before .before .before .before .before)
+array-share-prefix-adds c = adds-inside (solving (c .before))
 
-slice-aggregate-largest : tie.Need-slice-aggregate-largest
-slice-aggregate-largest c = adds-front (c .before .before .before .before .before .before .before .before .before .before)
+slice-aggregate-index : tie.Need-slice-aggregate-index
+slice-aggregate-index c = adds-front (solving (c .before .before))
 
-largest-requires : tie.Need-largest-requires
-largest-requires c κs =
-    let q = c .before .before .before .before .before .before .before .before .before .before in
-    omega (arith, adds-front q, sized (start q .pre .0 .in-size) .0)
+array-share-prefix-heads : tie.Need-array-share-prefix-heads
+array-share-prefix-heads c = heads-inside (solving (c .before .before))
+
+slice-aggregate-index-2 : tie.Need-slice-aggregate-index-2
+slice-aggregate-index-2 c = heads-front (solving (c .before .before .before))
+
+index-requires : tie.Need-index-requires
+index-requires c κs =
+    let d = c .before .before .before in
+    let q = solving d in
+    solved-known (start q .pre .0) (lent (start q)) (q .solve .ensures) _ _ _ (d .before .before .before .answer .given .1)
 
 array-share-prefix-adds-2 : tie.Need-array-share-prefix-adds-2
 array-share-prefix-adds-2 c = adds-inside (solving (counting c))
@@ -166,8 +173,8 @@ array-share-prefix-stars c = stars-inside (solving (counting (c .before)))
 slice-aggregate-put-figures-2 : tie.Need-slice-aggregate-put-figures-2
 slice-aggregate-put-figures-2 c = stars-front (solving (counting (c .before .before)))
 
-array-share-prefix-heads : tie.Need-array-share-prefix-heads
-array-share-prefix-heads c = heads-inside (solving (counting (c .before .before)))
+array-share-prefix-heads-2 : tie.Need-array-share-prefix-heads-2
+array-share-prefix-heads-2 c = heads-inside (solving (counting (c .before .before)))
 
 slice-aggregate-put-figures-3 : tie.Need-slice-aggregate-put-figures-3
 slice-aggregate-put-figures-3 c = heads-front (solving (counting (c .before .before .before)))
@@ -221,13 +228,15 @@ put-table-spec =
     enum-known-answer
     heads-requires
     array-share-prefix-adds
-    slice-aggregate-largest
-    largest-requires
+    slice-aggregate-index
+    array-share-prefix-heads
+    slice-aggregate-index-2
+    index-requires
     array-share-prefix-adds-2
     slice-aggregate-put-figures
     array-share-prefix-stars
     slice-aggregate-put-figures-2
-    array-share-prefix-heads
+    array-share-prefix-heads-2
     slice-aggregate-put-figures-3
     array-share-prefix-ties
     slice-aggregate-put-figures-4

@@ -1,15 +1,18 @@
 -- The largest so far is one of the additions, and none of those passed exceeds it. Assumes nothing.
 use borrow.Author.Needs.{needs}
 use native.Mathlib.Omega.{arith}
-use Prim.Native.Nat.{_-_}
+use Prim.Native.Nat.{_-_, _≤_}
+use mathlib.Core.Path.{_≡_}
 use mathlib.Core.Logic.{inl, inr}
 use lib.ListN.{length}
-use Rattle.printing.proofs.Figures.{Upto, upto-one, upto-same, upto-more, upto-all}
-use Rattle.printing.proofs.largest.Statement.{statement}
-use Rattle.printing.proofs.largest.Tie as tie
+use Rattle.theory.specs.Lists.{nums}
+use Rattle.theory.specs.Canon.{LargestAddition}
+use Rattle.theory.proofs.Index.{largest-first, largest-kept, largest-new}
+use Rattle.index_figure.proofs.largest.Statement.{statement}
+use Rattle.index_figure.proofs.largest.Tie as tie
 
 abbrev Inv-loop : tie.InvT-loop
-Inv-loop adds most₀ i₀ most i = Upto adds i most
+Inv-loop adds most₀ i₀ most i = LargestAddition i (nums adds) most × (i ≤ length adds)
 
 abbrev μ-loop : tie.MeasureT-loop
 μ-loop adds most₀ i₀ most i = length adds - i
@@ -18,7 +21,7 @@ shared-slice-read-most : tie.Need-shared-slice-read-most Inv-loop μ-loop
 shared-slice-read-most c = search needs
 
 loop-holds : tie.Need-loop-holds Inv-loop μ-loop
-loop-holds c = upto-one (c .before .args .adds .now) (c .before .pre)
+loop-holds c = (largest-first {l = nums (c .before .args .adds .now)}, search needs)
 
 mul-if1 : tie.Need-mul-if1 Inv-loop μ-loop
 mul-if1 c = search needs
@@ -41,14 +44,15 @@ loop-less c = search needs
 loop-again : tie.Need-loop-again Inv-loop μ-loop
 loop-again c =
     let l = c .before .before .before .loop in
-    let a = c .before .before .before .before .before .args .adds .now in
     elim (c .if1 .came) [
-      | inl w ↦ rw (w .2) (upto-more a (l .i) (l .most) (omega arith) (w .0 .taken) (l .inv))
-      | inr w ↦ rw (w .1) (upto-same a (l .i) (l .most) (omega arith) (omega (arith, w .0 .left)) (l .inv))
+      | inl w ↦ (rw (w .2) (largest-new (l .inv .0) (w .0 .taken)), search needs)
+      | inr w ↦ (rw (w .1) (largest-kept (l .inv .0) (omega (arith, w .0 .left))), search needs)
     ]
 
 returns : tie.Need-returns Inv-loop μ-loop
-returns c = upto-all (c .before .before .before .args .adds .now) (c .before .loop .i) (c .before .loop .most) (omega arith) (c .before .loop .inv)
+returns c =
+    let e : c .before .loop .i ≡ length (c .before .before .before .args .adds .now) = omega arith in
+    rw e at (c .before .loop .inv .0)
 
 pub largest-spec : {M : Type 1} → statement M
 largest-spec =

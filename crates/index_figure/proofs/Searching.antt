@@ -1,0 +1,82 @@
+-- What the tests of an entry and of the lists tell. Assumes nothing.
+use mathlib.Core.Path.{_≡_, refl, sym, ap, _∙_}
+use mathlib.Core.List.{List}
+use mathlib.Core.Bool.{false}
+use Prim.Native.Nat.{ℕ, _+_, _*_, _/_, _%_, _≤_, _<_}
+use native.Mathlib.Omega.{arith}
+use lib.Dec.{eqb}
+use lib.IntN.{ℤ, pos}
+use lib.ListN.{length, getD}
+use lib.Signed.{ltZ}
+use borrow.Author.Tests.{eqb-true, eqb-false}
+use mir.Syntax.{w16, w32}
+use mir.Val.{SFits, ofZ}
+use Rattle.theory.specs.Lists.{nums, ints}
+use Rattle.theory.specs.Table.{Negative, entry}
+use Rattle.theory.specs.Canon.{SomeHeadZero, SomeNegative, plus-one, alone, follows, keeps}
+use Rattle.theory.proofs.Signed.{signed}
+use Rattle.theory.proofs.Index.{zero-head, head-zero}
+use Rattle.orders.specs.Tested.{Tells}
+use Rattle.orders.specs.Places.{ceiling}
+use Rattle.orders.proofs.Entries.{tells-no, absent-bits, present-bits, bits-same}
+use Rattle.orders.proofs.Places.{cell, row-inside, col-inside, row-col}
+use Rattle.index_figure.specs.Parts.{Largest, NegativeIn, ZeroIn, Beyond, kept, one, none, HeadsKnown, IndexOf}
+
+-- the two ways through the test of one entry
+pub negative-absent : (v : ℤ) → SFits w16 v → ofZ w16 v ≡ 32768 → Tells false (Negative v)
+negative-absent v f e = tells-no (λ m. m .0 (absent-bits v f e))
+
+pub negative-present : (v : ℤ) → (ofZ w16 v ≡ 32768 → ⊥) → Tells (ltZ v (pos 0)) (Negative v)
+negative-present v ne =
+    record { holds = λ e. (present-bits v ne, omega (arith, signed)); fails = λ e m. omega (arith, signed, m .1) }
+
+-- the test of one head
+pub zero-told : (v : ℤ) → SFits w32 v → Tells (eqb (ofZ w32 v) 0) (v ≡ pos 0)
+zero-told v f =
+    record {
+      holds = λ same. bits-same f (record { sfits = omega arith }) (eqb-true (ofZ w32 v) 0 same);
+      fails = λ other e. eqb-false (ofZ w32 v) 0 other (ap (ofZ w32) e);
+    }
+
+as-largest : {m r : ℕ} → r ≡ 0 → m + r ≡ m
+as-largest e = omega arith
+
+beyond-small : {t h : List ℤ} {r : ℕ} → Beyond t h r → r ≤ 1
+beyond-small (kept s e) = omega arith
+beyond-small (one f z e) = omega arith
+beyond-small (none f g e) = omega arith
+
+-- An element of the list is the entry of one row and column, and the entry of a row and column is one element. So what the lists tell is
+-- what the definition asks.
+module _ {t : List ℤ} {l : List ℕ} {h : List ℤ} (w : HeadsKnown t l h) where
+  in-table : NegativeIn t → SomeNegative (length l) (entry t (length l))
+  in-table (k, hk, m) =
+      let n = length l in
+      let inside : k < n * n = omega (arith, w .square) in
+      record {
+        row = k / n;
+        column = k % n;
+        row-inside = row-inside n k inside;
+        column-inside = col-inside n k inside;
+        negative = rw (row-col n k inside) m;
+      }
+
+  in-list : SomeNegative (length l) (entry t (length l)) → NegativeIn t
+  in-list s =
+      let n = length l in
+      (s .row * n + s .column, omega (arith, w .square, cell n (s .row) (s .column) (s .row-inside) (s .column-inside)), s .negative)
+
+  head-told : ZeroIn h → SomeHeadZero (length l) (entry t (length l)) (nums l)
+  head-told (j, hj, e) = zero-head (length l) (entry t (length l)) (w .heads) j (omega (arith, w .heads-long)) e
+
+  told-head : SomeHeadZero (length l) (entry t (length l)) (nums l) → ZeroIn h
+  told-head z = let (j, hj, e) = head-zero (length l) (entry t (length l)) (w .heads) z in (j, omega (arith, w .heads-long), e)
+
+  pub figure : {m r : ℕ} → Largest l m → Beyond t h r → IndexOf t l (m + r)
+  figure {m} o (kept s e) = keeps (in-table s) (rw (as-largest e) o)
+  figure {m} o (one f z e) = follows (λ s. f (in-list s)) (plus-one m (head-told z) o (omega arith))
+  figure {m} o (none f g e) = follows (λ s. f (in-list s)) (alone (λ z. g (told-head z)) (rw (as-largest e) o))
+
+  -- and the sum fits 32 bits
+  pub figure-small : {m r : ℕ} → Largest l m → Beyond t h r → m + r ≤ ceiling + 1
+  figure-small o b = omega (arith, o .is, w .low (o .row) (o .inside), beyond-small b)

@@ -52,8 +52,9 @@ FIGURES = {
     "2 0 / 0 -": 3,
     "2 0 / 0 -1": 1,
     "0 100 / -100 -100": 100,
-    # all heads above 0, with orders 0 and without
+    # all heads above 0, with orders 0, with nothing but orders 0 in a column, and without
     "5 0 0 / 5 0 0 / 0 1 1": 1,
+    "2 1 - / 0 - 0 / - - 0": 2,
     "1 - / - 2": 0,
     # heads below 0, with a head 0 beside them and without
     "-5 - / - -3": 0,

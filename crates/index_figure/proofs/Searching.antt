@@ -1,17 +1,17 @@
 -- What the tests of an entry and of the lists tell. Assumes nothing.
-use mathlib.Core.Path.{_≡_, refl, sym, ap, _∙_}
+use mathlib.Core.Path.{_≡_, ap}
 use mathlib.Core.List.{List}
 use mathlib.Core.Bool.{false}
 use Prim.Native.Nat.{ℕ, _+_, _*_, _/_, _%_, _≤_, _<_}
 use native.Mathlib.Omega.{arith}
 use lib.Dec.{eqb}
 use lib.IntN.{ℤ, pos}
-use lib.ListN.{length, getD}
+use lib.ListN.{length}
 use lib.Signed.{ltZ}
 use borrow.Author.Tests.{eqb-true, eqb-false}
 use mir.Syntax.{w16, w32}
 use mir.Val.{SFits, ofZ}
-use Rattle.theory.specs.Lists.{nums, ints}
+use Rattle.theory.specs.Lists.{nums}
 use Rattle.theory.specs.Table.{Negative, entry}
 use Rattle.theory.specs.Canon.{SomeHeadZero, SomeNegative, plus-one, alone, follows, keeps}
 use Rattle.theory.proofs.Signed.{signed}

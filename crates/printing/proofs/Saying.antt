@@ -12,7 +12,7 @@ use lib.Seq.{take-at, getD-take, length-take-le}
 use Rattle.theory.specs.Limits.{row-limit}
 use Rattle.theory.specs.Lists.{nums}
 use Rattle.theory.specs.Table.{entry}
-use Rattle.theory.specs.Canon.{NoTransversal, Ties, Index}
+use Rattle.theory.specs.Canon.{NoTransversal, Ties}
 use Rattle.theory.proofs.Ties.{head-holders, holders-same}
 use Rattle.orders.specs.declared.Refusal.{Refusal}
 use Rattle.orders.specs.declared.Tops.{Tops}

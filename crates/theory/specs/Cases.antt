@@ -222,4 +222,6 @@ index-cases =
     ∷ index-of 2 (m 5 ∷ x ∷ x ∷ o 3 ∷ []) (0 ∷ 0 ∷ []) 0
     -- `5 0 0 / 5 0 0 / 0 1 1`, heads 6 1 1: orders are 0, and no head is
     ∷ index-of 3 (o 5 ∷ o 0 ∷ o 0 ∷ o 5 ∷ o 0 ∷ o 0 ∷ o 0 ∷ o 1 ∷ o 1 ∷ []) (1 ∷ 1 ∷ 0 ∷ []) 1
+    -- `2 1 - / 0 - 0 / - - 0`, heads 2 1 2: the third column has orders 0 alone, which are raised
+    ∷ index-of 3 (o 2 ∷ o 1 ∷ x ∷ o 0 ∷ x ∷ o 0 ∷ x ∷ x ∷ o 0 ∷ []) (0 ∷ 2 ∷ 2 ∷ []) 2
     ∷ []

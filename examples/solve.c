@@ -3,6 +3,7 @@
 #include "canon.h"
 
 #include <stdio.h>
+#include <string.h>
 
 #define N 3
 
@@ -14,17 +15,18 @@ static const int16_t table[N * N] = {
 };
 static const char equations[N][8] = {"fx", "fy", "rod"}, unknowns[N][8] = {"x", "y", "pull"};
 
-/* Prints the section `index` as the library does: the last two lines of the printed answer of the table's sheet. */
+/* Prints the section `index` as it stands in the printed answer of the table's sheet. */
 static uint32_t print_index(void) {
-    uint8_t sheet[CANON_SHEET], text[CANON_PRINTED];
-    size_t sheet_length, length, at, lines = 0;
+    uint8_t sheet[CANON_SHEET], text[CANON_PRINTED + 1];
+    const char *section;
+    size_t length;
     uint32_t refused = canon_write_sheet(N, table, N * N, (const uint8_t *)equations, sizeof equations,
-                                         (const uint8_t *)unknowns, sizeof unknowns, sheet, sizeof sheet, &sheet_length);
-    if (!refused) refused = canon_print(sheet, sheet_length, text, sizeof text, &length);
+                                         (const uint8_t *)unknowns, sizeof unknowns, sheet, sizeof sheet, &length);
+    if (!refused) refused = canon_print(sheet, length, text, CANON_PRINTED, &length);
     if (refused) return refused;
-    for (at = length; at > 0; at--)
-        if (text[at - 1] == '\n' && lines++ == 2) break;
-    printf("%.*s", (int)(length - at), (const char *)text + at);
+    text[length] = '\0';
+    section = strstr((const char *)text, "index 1\n");
+    if (section) printf("index 1\n%.*s\n", (int)strcspn(section + 8, "\n"), section + 8);
     return 0;
 }
 

@@ -68,8 +68,9 @@ def main():
     adds, stars, heads, total = solve(library, rows)
     columns = column_heads(library, rows, adds)
     ties = [count for _, _, count in columns]
-    # The index figure is the last line of the printed answer.
-    index = printed(library, rows, equations, unknowns).splitlines()[-1]
+    # The index figure stands in the printed answer, under its heading.
+    lines = printed(library, rows, equations, unknowns).splitlines()
+    index = lines[lines.index("index 1") + 1]
     sections = {"adds": adds, "stars": stars, "heads": heads, "ties": ties, "sum": [total], "index": [index]}
     for name, values in sections.items():
         print(f"{name} {len(values)}", *values, sep="\n")

@@ -96,8 +96,8 @@ fn print_all(drawn: &Labelled) -> Result<(), u32> {
     print("heads", &answer.heads);
     print("ties", &columns.counts);
     print("sum", &[answer.sum]);
-    // The index figure is the last line of the printed answer.
-    print("index", &[page.lines().last().expect("an answer has lines")]);
+    // The index figure stands in the printed answer, under its heading.
+    print("index", &[page.lines().skip_while(|&line| line != "index 1").nth(1).expect("the figure under its heading")]);
     for j in (0..n).filter(|&j| columns.counts[j] > 1) {
         println!("column {}: {} rows share {}, the lowest is row {}", j + 1, columns.counts[j], columns.heads[j], columns.rows[j]);
     }

@@ -1,8 +1,8 @@
 //! Compares the C interface with an independent second program that tries every transversal.
 //!
 //! compare SEED COUNT VECTORS EXAMPLES DRIVER..: COUNT random tables of up to 7 rows, COUNT / 20 tables of 8 to 32 rows
-//! checked by certificate, as many again with ties and empty columns for the heads of columns, COUNT / 4 printed about the edges of
-//! the index figure, COUNT random and mutated sheets, the stored vectors in the file VECTORS, and the sheets in the folder EXAMPLES with
+//! checked by certificate and printed, as many again with ties and empty columns for the heads of columns, COUNT / 4 printed about the
+//! edges of the index figure, COUNT random and mutated sheets, the stored vectors in the file VECTORS, and the sheets in the folder EXAMPLES with
 //! the answers beside them. DRIVER.. is the command that runs driver.c. Ends with status 1 on any difference, and also if some refusal
 //! that a call can give was never given, or some side of the figure's edges never printed.
 
@@ -150,14 +150,15 @@ fn large_tables(driver: &mut Driver, chance: &mut Chance, tally: &mut Tally, cou
     }
 }
 
-/// A request to print a table whose answer is known, and what must come of it.
+/// A request to print a table whose answer is known, with room for it, and what must come of it.
 fn printing(chance: &mut Chance, tally: &mut Tally, truth: &Truth) -> (Request, Answer) {
     if let Some(side) = figures::side(truth) {
         *tally.sides.entry(side).or_insert(0) += 1;
     }
     let sheet = sheets::text(&sheets::labelled(chance, truth.table.clone()));
     let page = sheets::page(truth);
-    let request = sheets::print_request(chance, &sheet, page.len());
+    let room = chance.one_of(&[sheets::PRINTED, page.len()]);
+    let request = sheets::roomy_request(chance, &sheet, room);
     let wanted = sheets::expected_page(&request, &page);
     (request, wanted)
 }
@@ -230,8 +231,7 @@ fn example_sheets(driver: &mut Driver, chance: &mut Chance, tally: &mut Tally, f
     for path in &names {
         let sheet = std::fs::read(path).expect("a sheet");
         let answer = std::fs::read(path.with_extension("answer")).expect("an answer beside the sheet");
-        let mut request = sheets::print_request(chance, &sheet, answer.len());
-        request.parts[1] = tables::lent(chance, 1, sheets::PRINTED);
+        let request = sheets::roomy_request(chance, &sheet, sheets::PRINTED);
         let mut wanted = request.refused(0);
         wanted.parts[1].write_front(&answer);
         wanted.parts[2] = Part::length(answer.len() as u64);

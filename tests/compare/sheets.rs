@@ -394,5 +394,10 @@ pub const PRINTED: usize = 4000;
 /// A request of the printer with rooms of many lengths, that of the answer and one byte less among them.
 pub fn print_request(chance: &mut Chance, sheet: &[u8], length: usize) -> Request {
     let room = chance.one_of(&[PRINTED, PRINTED, length, length, length - 1, length / 2, 9, 0]);
+    roomy_request(chance, sheet, room)
+}
+
+/// A request of the printer with a room of that length.
+pub fn roomy_request(chance: &mut Chance, sheet: &[u8], room: usize) -> Request {
     Request { call: Call::Print, n: 0, parts: vec![Part::text(sheet), lent(chance, 1, room), lent(chance, 8, 1)] }
 }

@@ -153,7 +153,7 @@ fn print_case(driver: &mut Driver, chance: &mut Chance, case: &Case, alone: &Ans
     let truth = Truth { table: case.table(), solved, transversals: None };
     let page = sheets::page(&truth);
     let sheet = sheets::text(&sheets::labelled(chance, case.table()));
-    let request = sheets::print_request(chance, &sheet, page.len());
+    let request = sheets::roomy_request(chance, &sheet, sheets::PRINTED);
     let answer = driver.ask(std::slice::from_ref(&request)).remove(0);
     let index = truth.solved.as_ref().map(|solved| truth.table.index(&solved.additions));
     let fault = if answer != sheets::expected_page(&request, &page) {

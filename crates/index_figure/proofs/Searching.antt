@@ -15,7 +15,7 @@ use Rattle.theory.specs.Lists.{nums}
 use Rattle.theory.specs.Table.{Negative, entry}
 use Rattle.theory.specs.Canon.{SomeHeadZero, SomeNegative, plus-one, alone, follows, keeps}
 use Rattle.theory.proofs.Signed.{signed}
-use Rattle.theory.proofs.Index.{zero-head, head-zero}
+use Rattle.theory.proofs.Index.{index-low, head-zero-from, head-zero-at}
 use Rattle.orders.specs.Tested.{Tells}
 use Rattle.orders.specs.Places.{ceiling}
 use Rattle.orders.proofs.Entries.{tells-no, absent-bits, present-bits, bits-same}
@@ -41,16 +41,11 @@ zero-told v f =
 as-largest : {m r : ℕ} → r ≡ 0 → m + r ≡ m
 as-largest e = omega arith
 
-beyond-small : {t h : List ℤ} {r : ℕ} → Beyond t h r → r ≤ 1
-beyond-small (kept s e) = omega arith
-beyond-small (one f z e) = omega arith
-beyond-small (none f g e) = omega arith
-
 -- An element of the list is the entry of one row and column, and the entry of a row and column is one element. So what the lists tell is
 -- what the definition asks.
 module _ {t : List ℤ} {l : List ℕ} {h : List ℤ} (w : HeadsKnown t l h) where
-  in-table : NegativeIn t → SomeNegative (length l) (entry t (length l))
-  in-table (k, hk, m) =
+  table-negative : NegativeIn t → SomeNegative (length l) (entry t (length l))
+  table-negative (k, hk, m) =
       let n = length l in
       let inside : k < n * n = omega (arith, w .square) in
       record {
@@ -61,22 +56,22 @@ module _ {t : List ℤ} {l : List ℕ} {h : List ℤ} (w : HeadsKnown t l h) whe
         negative = rw (row-col n k inside) m;
       }
 
-  in-list : SomeNegative (length l) (entry t (length l)) → NegativeIn t
-  in-list s =
+  list-negative : SomeNegative (length l) (entry t (length l)) → NegativeIn t
+  list-negative s =
       let n = length l in
       (s .row * n + s .column, omega (arith, w .square, cell n (s .row) (s .column) (s .row-inside) (s .column-inside)), s .negative)
 
-  head-told : ZeroIn h → SomeHeadZero (length l) (entry t (length l)) (nums l)
-  head-told (j, hj, e) = zero-head (length l) (entry t (length l)) (w .heads) j (omega (arith, w .heads-long)) e
+  column-zero : ZeroIn h → SomeHeadZero (length l) (entry t (length l)) (nums l)
+  column-zero (j, hj, e) = head-zero-from (length l) (entry t (length l)) (w .heads) j (omega (arith, w .heads-long)) e
 
-  told-head : SomeHeadZero (length l) (entry t (length l)) (nums l) → ZeroIn h
-  told-head z = let (j, hj, e) = head-zero (length l) (entry t (length l)) (w .heads) z in (j, omega (arith, w .heads-long), e)
+  list-zero : SomeHeadZero (length l) (entry t (length l)) (nums l) → ZeroIn h
+  list-zero z = let (j, hj, e) = head-zero-at (length l) (entry t (length l)) (w .heads) z in (j, omega (arith, w .heads-long), e)
 
   pub figure : {m r : ℕ} → Largest l m → Beyond t h r → IndexOf t l (m + r)
-  figure {m} o (kept s e) = keeps (in-table s) (rw (as-largest e) o)
-  figure {m} o (one f z e) = follows (λ s. f (in-list s)) (plus-one m (head-told z) o (omega arith))
-  figure {m} o (none f g e) = follows (λ s. f (in-list s)) (alone (λ z. g (told-head z)) (rw (as-largest e) o))
+  figure {m} o (kept s e) = keeps (table-negative s) (rw (as-largest e) o)
+  figure {m} o (one f z e) = follows (λ s. f (list-negative s)) (plus-one m (column-zero z) o (omega arith))
+  figure {m} o (none f g e) = follows (λ s. f (list-negative s)) (alone (λ z. g (list-zero z)) (rw (as-largest e) o))
 
   -- and the sum fits 32 bits
   pub figure-small : {m r : ℕ} → Largest l m → Beyond t h r → m + r ≤ ceiling + 1
-  figure-small o b = omega (arith, o .is, w .low (o .row) (o .inside), beyond-small b)
+  figure-small o b = let (i, hi, le) = index-low (length l) (entry t (length l)) (figure o b) in omega (arith, w .low i hi)

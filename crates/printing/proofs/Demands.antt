@@ -9,7 +9,7 @@ use Rattle.theory.specs.Lists.{nums}
 use Rattle.theory.specs.Table.{entry}
 use Rattle.theory.specs.Canon.{LargestAddition}
 use Rattle.theory.proofs.Counts.{count-once}
-use Rattle.theory.proofs.Index.{index-near, index-kept, index-more, more-only, zero-head, head-zero}
+use Rattle.theory.proofs.Index.{index-near, index-kept, index-more, more-only, head-zero-from, head-zero-at}
 use Rattle.theory.proofs.Ties.{head-holders}
 use Rattle.orders.specs.Refusals.{Said, gives, refuses}
 use Rattle.orders.proofs.Refusals.{same-number, not-both}
@@ -51,8 +51,8 @@ module _ (n : ℕ) (t : List ℤ) (f : Figures) (most : ℕ) where
       record {
         near = index-near n a o (p .is-index);
         kept = λ some. index-kept n a o some (p .is-index);
-        one-more = λ none j hj e. index-more n a o none (zero-head n a (p .solution .heads) j hj e) (p .is-index);
-        only-then = λ e. let (none, z) = more-only n a o (p .is-index) e in (none, head-zero n a (p .solution .heads) z);
+        one-more = λ none j hj e. index-more n a o none (head-zero-from n a (p .solution .heads) j hj e) (p .is-index);
+        only-then = λ e. let (none, z) = more-only n a o (p .is-index) e in (none, head-zero-at n a (p .solution .heads) z);
       }
 
 pub printing-call : PrintingCall

@@ -22,7 +22,7 @@ use Rattle.printing.specs.Promise.{says, FiguresOf, SheetSays, PrintProm
 abbrev pub printing-due : List ℕ → List ℕ → ℕ → List ℕ → Type 0
 printing-due s room k values = (a : Said Figures) × SheetSays s a × (length room < length (printed a)) × (k ≡ 12) × (values ≡ [])
 
--- Document 02, request 2: the index figure that is printed, beside the largest addition, which was printed before.
+-- Document 02, request 2: the index figure that is printed, beside the largest addition, which the figure was until then.
 pub record Request2 (n : ℕ) (t : List ℤ) (f : Figures) (most : ℕ) : Type 0 where
   -- it is the largest addition or one more
   pub near : (f .index ≡ most) ⊎ (f .index ≡ most + 1)

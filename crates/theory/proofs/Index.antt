@@ -1,19 +1,14 @@
--- The index figure: the largest addition row by row, that there is exactly one figure, and where it differs from the largest addition.
+-- The index figure: the largest addition row by row, that there is one figure at most, and where it differs from the largest addition.
 -- Assumes nothing.
 use mathlib.Core.Path.{_≡_, refl, sym}
 use mathlib.Core.Logic.{_⊎_, inl, inr}
-use Prim.Native.Nat.{ℕ, zero, suc, _+_, _-_, _≤_, _<_}
-use native.Mathlib.Decide.{decLt}
-use native.Mathlib.Numerals.{add-one}
+use Prim.Native.Nat.{ℕ, _+_, _≤_, _<_}
 use native.Mathlib.Omega.{arith}
 use borrow.Author.Count.{below-more}
-use lib.IntN.{ℤ, pos, ℤ-discrete}
-use Rattle.theory.specs.Table.{Negative}
-use Rattle.theory.specs.Canon.{raised, Maximum, Heads, LargestAddition, SomeHeadZero, SomeNegative, StructuralIndex, plus-one, alone, Index, follows, keeps}
-use Rattle.theory.proofs.Pigeonhole.{dec-both, dec-exists}
+use lib.IntN.{ℤ, pos}
+use Rattle.theory.specs.Canon.{Heads, LargestAddition, SomeHeadZero, SomeNegative, StructuralIndex, plus-one, alone, Index, follows, keeps}
 use Rattle.theory.proofs.Duality.{head-once}
 use Rattle.theory.proofs.Unique.{Same, head-same}
-use Rattle.theory.proofs.Decisions.{present-known, less-known, maximum-known}
 
 -- ---- the largest addition of one row more
 module _ {l : ℕ → ℕ} where
@@ -35,47 +30,7 @@ module _ {l : ℕ → ℕ} where
           largest = below-more (λ i. l i ≤ l k) k (λ i hi. omega (arith, o .largest i hi)) (omega arith);
         }
 
-pub largest-exists : (l : ℕ → ℕ) (k : ℕ) → (x : ℕ) × LargestAddition (k + 1) l x
-largest-exists l zero = (l 0, largest-first)
-largest-exists l (suc k) =
-    let (x, o) = simp add-one at (largest-exists l k) in
-    elim (decLt x (l (suc k))) [ yes lt ↦ (l (suc k), largest-new o lt) | no ge ↦ (x, largest-kept o (omega arith)) ]
-
 module _ (n : ℕ) (a : ℕ → ℕ → ℤ) where
-  -- ---- there is a figure: whether some order is negative, and whether some head is 0, is found by looking at every place
-  negative-known : Dec (SomeNegative n a)
-  negative-known =
-      go (dec-exists (λ i. (j : ℕ) × (j < n) × Negative (a i j))
-      (λ i. dec-exists (λ j. Negative (a i j)) (λ j. dec-both (present-known (a i j)) (less-known (a i j) (pos 0))) n) n)
-    where
-      go : Dec ((i : ℕ) × (i < n) × ((j : ℕ) × (j < n) × Negative (a i j))) → Dec (SomeNegative n a)
-      go (yes (i, hi, (j, hj, v))) = yes (record { row = i; column = j; row-inside = hi; column-inside = hj; negative = v })
-      go (no none) = no (λ s. none (s .row, s .row-inside, (s .column, s .column-inside, s .negative)))
-
-  head-zero-known : (l : ℕ → ℕ) → Dec (SomeHeadZero n a l)
-  head-zero-known l =
-      go (dec-exists (λ j. (i : ℕ) × (i < n) × At i j)
-      (λ j. dec-exists (λ i. At i j) (λ i. dec-both (maximum-known n a l i j) (ℤ-discrete (pos 0) (raised n a l i j))) n) n)
-    where
-      -- row i holds the head of column j, which is 0
-      At : ℕ → ℕ → Type 0
-      At i j = Maximum n a l i j × (pos 0 ≡ raised n a l i j)
-
-      go : Dec ((j : ℕ) × (j < n) × ((i : ℕ) × (i < n) × At i j)) → Dec (SomeHeadZero n a l)
-      go (yes (j, hj, (i, hi, (m, e)))) = yes (record { column = j; inside = hj; head = record { row = i; inside = hi; maximum = m; is = e } })
-      go (no none) = no (λ z. none (z .column, z .inside, (z .head .row, z .head .inside, (z .head .maximum, z .head .is))))
-
-  pub index-exists : (l : ℕ → ℕ) → 1 ≤ n → (x : ℕ) × Index n a l x
-  index-exists l some =
-      let (m, o) = largest-exists l (n - 1) in
-      let e : n - 1 + 1 ≡ n = omega arith in
-      go m (rw e at o) negative-known (head-zero-known l)
-    where
-      go : (m : ℕ) → LargestAddition n l m → Dec (SomeNegative n a) → Dec (SomeHeadZero n a l) → (x : ℕ) × Index n a l x
-      go m o (yes s) z = (m, keeps s o)
-      go m o (no none) (yes z) = (m + 1, follows none (plus-one m z o refl))
-      go m o (no none) (no no-zero) = (m, follows none (alone no-zero o))
-
   -- ---- at most one figure
   pub largest-once : {l m : ℕ → ℕ} {x y : ℕ} → Same n a l m → LargestAddition n l x → LargestAddition n m y → x ≡ y
   largest-once e s t =
@@ -140,8 +95,8 @@ module _ (n : ℕ) (a : ℕ → ℕ → ℤ) where
 
   -- ---- heads that are known
   -- where the heads are h, some head is 0 exactly when some h j is
-  pub zero-head : {l : ℕ → ℕ} {h : ℕ → ℤ} → Heads n a l h → (j : ℕ) → j < n → h j ≡ pos 0 → SomeHeadZero n a l
-  zero-head {l} heads j hj e = record { column = j; inside = hj; head = rw e at (heads j hj) }
+  pub head-zero-from : {l : ℕ → ℕ} {h : ℕ → ℤ} → Heads n a l h → (j : ℕ) → j < n → h j ≡ pos 0 → SomeHeadZero n a l
+  head-zero-from heads j hj e = record { column = j; inside = hj; head = rw e at (heads j hj) }
 
-  pub head-zero : {l : ℕ → ℕ} {h : ℕ → ℤ} → Heads n a l h → SomeHeadZero n a l → (j : ℕ) × (j < n) × (h j ≡ pos 0)
-  head-zero heads z = (z .column, z .inside, head-once n a (heads (z .column) (z .inside)) (z .head))
+  pub head-zero-at : {l : ℕ → ℕ} {h : ℕ → ℤ} → Heads n a l h → SomeHeadZero n a l → (j : ℕ) × (j < n) × (h j ≡ pos 0)
+  head-zero-at heads z = (z .column, z .inside, head-once n a (heads (z .column) (z .inside)) (z .head))

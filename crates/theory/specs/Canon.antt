@@ -1,5 +1,6 @@
--- Document 01's "Definitions taken from Jacobi", for a table with n rows and n columns whose entry in row i and column j is
--- `a i j`. Additions are natural numbers, one for each row; orders, heads and sums are signed. Only rows and columns below n count.
+-- Document 01's "Definitions taken from Jacobi", and what requests 1 and 2 of document 02 add to them, for a table with n rows and n
+-- columns whose entry in row i and column j is `a i j`. Additions are natural numbers, one for each row; orders, heads and sums are
+-- signed. Only rows and columns below n count.
 use mathlib.Core.Path.{_≡_}
 use Prim.Native.Nat.{ℕ, _+_, _≤_, _<_}
 use lib.IntN.{ℤ, pos, _+ℤ_, _-ℤ_}

@@ -1,4 +1,4 @@
--- What the customer must believe, each word of document 01 once.
+-- What the customer must believe, each word of documents 01 and 02 once.
 pub mod Limits
 pub mod Lists
 pub mod Totals

@@ -1,3 +1,5 @@
+#![tactic(auto)]
+
 ghost use Rattle.orders.specs.Held.{Startable};
 ghost use Rattle.canon.specs.Solving.{SolvedFrom};
 ghost use Rattle.canon.specs.Promises.{Solves, FromCanon, FromStars, Judges, ColumnHeads};

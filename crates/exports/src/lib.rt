@@ -1,3 +1,5 @@
+#![tactic(auto)]
+
 ghost use Rattle.canon.specs.Answers.{said, judged, told};
 ghost use Rattle.canon.specs.Promises.{Solves, FromCanon, FromStars, Judges, ColumnHeads};
 ghost use Rattle.canon.specs.declared.Verdict.{Verdict};

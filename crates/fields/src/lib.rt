@@ -1,3 +1,5 @@
+#![tactic(auto)]
+
 ghost use Rattle.orders.specs.Tested.{Tells};
 ghost use Rattle.sheet.specs.Text.{Digit};
 ghost use Rattle.fields.specs.Fields.{BeforeFeed, LineIs, StartsWith, Readable, FrontIs, FieldIs, NumberIs, SignedIs};

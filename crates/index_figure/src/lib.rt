@@ -1,3 +1,5 @@
+#![tactic(auto)]
+
 ghost use Rattle.std.specs.Prelude.{◌≤◌, length};
 ghost use Rattle.theory.specs.Table.{Negative};
 ghost use Rattle.orders.specs.Tested.{Tells};

@@ -1,3 +1,5 @@
+#![tactic(auto)]
+
 ghost use Rattle.std.specs.Prelude.{◌≡◌, ℕ, ◌*◌, ◌<◌, ◌≤◌, length, get_or};
 ghost use Rattle.orders.specs.Tested.{Tells};
 ghost use Rattle.theory.specs.Limits.{row_limit as limit};

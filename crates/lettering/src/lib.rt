@@ -1,3 +1,5 @@
+#![tactic(auto)]
+
 ghost use Rattle.std.specs.Prelude.{◌≡◌, [], ◌∷◌, ◌++◌, ◌+◌, ◌≤◌, nat_abs, length};
 ghost use Rattle.sheet.specs.Text.{text, signed, ended};
 ghost use Rattle.lettering.specs.Putting.{Puts};

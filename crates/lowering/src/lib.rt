@@ -1,3 +1,5 @@
+#![tactic(auto)]
+
 ghost use Rattle.std.specs.Prelude.{ℕ, ◌≤◌, ◌<◌};
 ghost use Rattle.theory.specs.Limits.{row_limit};
 ghost use Rattle.theory.specs.Lists.{nums, flags};

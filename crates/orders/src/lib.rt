@@ -1,3 +1,5 @@
+#![tactic(auto)]
+
 ghost use Rattle.std.specs.Prelude.{◌≡◌, ◌*◌, ◌≤◌, ◌<◌, pos, ◌+ℤ◌, ◌≤ℤ◌};
 ghost use Rattle.theory.specs.Table.{Present, Order, Entries};
 ghost use Rattle.theory.specs.Limits.{row_limit, order_limit};

@@ -1,3 +1,5 @@
+#![tactic(auto)]
+
 ghost use Rattle.std.specs.Prelude.{◌≤◌, length};
 ghost use Rattle.orders.specs.Refusals.{gives, refusal};
 ghost use Rattle.lettering.specs.Putting.{Puts};

@@ -1,3 +1,5 @@
+#![tactic(auto)]
+
 ghost use Rattle.std.specs.Prelude.{[], ◌≤◌, length};
 ghost use Rattle.handed.specs.Handed.{Sound};
 ghost use Rattle.printing.specs.Room.{enough};

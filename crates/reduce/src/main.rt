@@ -1,3 +1,5 @@
+#![tactic(auto)]
+
 use printing::{ENOUGH, INPUT, print_input};
 use streams::{Reading, read_input, tell};
 

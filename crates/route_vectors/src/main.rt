@@ -3,6 +3,8 @@
 // numbers parted by one blank: the call (1 to 3 the routes, 4 the yes-or-no, 5 the heads of columns), N, and five lists, each its
 // length and then its values: the table (`-` alone is absent), what is given, and what the lent additions, stars and heads, or
 // rows, counts and heads, hold at the call.
+#![tactic(auto)]
+
 ghost use Rattle.std.specs.Prelude.{◌≤◌, ◌≡◌, length};
 
 use canon::{Answer, Filled, Verdict, column_heads, from_canon, from_stars, is_simplest, solve};

@@ -1,3 +1,5 @@
+#![tactic(auto)]
+
 ghost use Rattle.routes.specs.Routes.{GivenAdditions, ReducedFrom, GivenColumns, RaisedFrom};
 
 use growth::grow;

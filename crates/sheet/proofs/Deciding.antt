@@ -49,7 +49,7 @@ all_dec z P dec [] = yes (λ k h. absurd (omega arith))
 all_dec z P dec (a ∷ l) = go (dec a) (all_dec z P dec l)
   where
     go : Dec (P a) → Dec ((k : ℕ) → k < length l → P (get_or l k z)) → Dec ((k : ℕ) → k < suc (length l) → P (get_or (a ∷ l) k z))
-    go (yes p) (yes q) = yes (λ k. elim k [ zero ↦ λ h. p | suc i ↦ λ h. q i (omega arith) ])
+    go (yes p) (yes q) = yes (λ k. elim k as (λ m. m < suc (length l) → P (get_or (a ∷ l) m z)) [ zero ↦ λ h. p | suc i ↦ λ h. q i (omega arith) ])
     go (yes p) (no q) = no (λ f. q (λ k h. f (suc k) (omega arith)))
     go (no p) r = no (λ f. p (f 0 (omega arith)))
 

@@ -1,3 +1,5 @@
+#![tactic(auto)]
+
 ghost use Rattle.std.specs.Prelude.{◌≡◌};
 ghost use Rattle.orders.specs.Tested.{Tells};
 ghost use Rattle.sheet.specs.Labels.{LetterOrDigit, Form, Repeated};

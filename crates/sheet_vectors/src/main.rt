@@ -1,6 +1,8 @@
 // Runs the calls on sheets that the files named by its arguments hold, and prints for each the answer and a mix of what was lent.
 // A file holds one call: `R`, the lengths of the table and of the two label buffers (two bytes each, the higher first) and a sheet; or
 // `W`, N, the same lengths, the length of the room, the entries (two bytes each, raised by 32,768) and the two label buffers.
+#![tactic(auto)]
+
 use orders::Refusal;
 use reader::Read;
 use writer::Written;

@@ -1,3 +1,5 @@
+#![tactic(auto)]
+
 ghost use Rattle.streams.specs.Counted.{Counted};
 
 // What the reading of an input came to: so many bytes at the front of the buffer, or a read that failed.

@@ -1,3 +1,5 @@
+#![tactic(auto)]
+
 ghost use Rattle.canon.specs.Answers.{said, judged, told};
 ghost use Rattle.reader.specs.Promise as reader;
 ghost use Rattle.writer.specs.Promise as writer;

@@ -61,6 +61,7 @@ implies a b = not a || b
 
 implies_told : (a b : Bool) → T (implies a b) → T a → T b
 unfolding implies
+implies_told false b t p = elim p [ ]
 implies_told true b t p = t
 
 implies_tells : (a b : Bool) → (T a → T b) → T (implies a b)
@@ -586,6 +587,7 @@ module _ (n : ℕ) (a : ℕ → ℕ → ℤ) where
     figure_told true z x p q t = keeps (negative_order_told (rw p tt)) (largest_told x t)
     figure_told false false x p q t =
         follows (λ s. rw p at (negative_order_tells s)) (alone (λ s. rw q at (head_zero_tells s)) (largest_told x t))
+    figure_told false true zero p q t = elim t [ ]
     figure_told false true (suc most) p q t =
         follows (λ s. rw p at (negative_order_tells s)) (plus_one most (head_zero_told (rw q tt)) (largest_told most t) (omega arith))
 

@@ -28,6 +28,7 @@ count_none (suc n) f = passed_over (count_none n (λ i hi. f i (omega arith))) (
 
 -- where something has it, something is counted
 pub count_some : {P : ℕ → Type 0} (n : ℕ) {c : ℕ} → Count P n c → (i : ℕ) → i < n → P i → 1 ≤ c
+count_some {P = P} zero {c = c} _ i hi y = elim hi [ ]
 count_some (suc n) (one_more p x) i hi y = omega arith
 count_some {P} (suc n) (passed_over p x) i hi y =
     elim (ℕ_discrete i n) [ yes e ↦ absurd (x (rw e at y)) | no ne ↦ count_some n p i (omega arith) y ]

@@ -14,9 +14,13 @@ use Rattle.theory.specs.Lists.{nums, flags}
 
 -- ---- both, either, not, guarded
 pub both : (a b : Bool) → T (a && b) → T a × T b
+both false b t = elim t [ ]
+both true false t = elim t [ ]
 both true true t = (tt, tt)
 
 pub and_both : (a b : Bool) → T a → T b → T (a && b)
+and_both false b s t = elim s [ ]
+and_both true false s t = elim t [ ]
 and_both true true s t = tt
 
 pub either : (a b : Bool) → T (a || b) → T a ⊎ T b
@@ -24,6 +28,7 @@ either true b t = inl tt
 either false b t = inr t
 
 pub left_either : (a b : Bool) → T a → T (a || b)
+left_either false b t = elim t [ ]
 left_either true b t = tt
 
 pub right_either : (a b : Bool) → T b → T (a || b)
@@ -48,10 +53,12 @@ guard false f = false
 
 pub guarded : (b : Bool) (f : Unit → Bool) → T (guard b f) → T b × T (f tt)
 unfolding guard
+guarded false f t = elim t [ ]
 guarded true f t = (tt, t)
 
 pub unguarded : (b : Bool) (f : Unit → Bool) → T b → T (f tt) → T (guard b f)
 unfolding guard
+unguarded false f s t = elim s [ ]
 unguarded true f s t = t
 
 -- ---- all and some of the numbers below n
@@ -75,6 +82,7 @@ some (suc n) f = f n || some n f
 
 pub some_told : (n : ℕ) (f : ℕ → Bool) → T (some n f) → (i : ℕ) × (i < n) × T (f i)
 unfolding some
+some_told zero f t = elim t [ ]
 some_told (suc n) f t = go (either (f n) (some n f) t) (some_told n f)
   where
     go : T (f n) ⊎ T (some n f) → (T (some n f) → (i : ℕ) × (i < n) × T (f i)) → (i : ℕ) × (i < suc n) × T (f i)

@@ -1,0 +1,5 @@
+-- A number is written after its tens, which is less.
+use Rattle.lettering.proofs.+put_number.Given as goal
+
+abbrev pub decreases-put_number : goal.decreases-put_number
+decreases-put_number l = l.v

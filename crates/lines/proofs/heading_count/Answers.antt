@@ -1,5 +1,4 @@
 -- Each section has its heading. Assumes nothing.
-use borrow.Author.Rules.{rules}
 use native.Mathlib.Omega.{arith}
 use Rattle.orders.proofs.Places.{square_small}
 use Rattle.lines.proofs.LineLaws.{heading_rows, heading_cols, heading_orders}

@@ -1,6 +1,4 @@
 -- A label is put into its place and compared with those before it. Assumes nothing.
-use borrow.Author.Rules.{rules}
-use borrow.Author.Tests.{not-true, not-false}
 use native.Mathlib.Omega.{arith}
 use Rattle.lines.proofs.KeepLaws.{unkept_label, compared_label}
 use Rattle.lines.proofs.keep_label.Goals as goal

@@ -1,5 +1,4 @@
 -- A line is kept as a label of its section, or as an order. Assumes nothing.
-use borrow.Author.Rules.{rules}
 use mathlib.Core.Path.{subst}
 use Rattle.lines.specs.Parts.{FewLabels}
 use Rattle.lines.proofs.KeepLaws.{kept_row, unkept_row, kept_col, unkept_col}

@@ -1,5 +1,4 @@
 -- An order line: a row, a column and an order, each read from the rest of the line. Assumes nothing.
-use borrow.Author.Rules.{rules}
 use native.Mathlib.Omega.{arith}
 use mathlib.Core.Path.{sym}
 use mathlib.Core.List.{List}

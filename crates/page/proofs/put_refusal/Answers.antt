@@ -1,5 +1,4 @@
 -- A refusal's one line, with the number of a wrong line and without. Assumes nothing.
-use borrow.Author.Rules.{rules}
 use native.Mathlib.Omega.{arith}
 use mathlib.Core.Path.{◌≡◌, ap, ◌∙◌}
 use mathlib.Core.List.{◌++◌}

@@ -1,7 +1,7 @@
 -- Route 2 keeps its promise. Assumes nothing.
 use mathlib.Core.Path.{ap}
 use mathlib.Core.List.{[], ◌∷◌}
-use borrow.Author.Rules.{rules, sfits_of}
+use borrow.Author.Rules.{sfits_of}
 use borrow.Author.Tests.{not-true, not-false}
 use lib.ListN.{length}
 use mir.Syntax.{w32}

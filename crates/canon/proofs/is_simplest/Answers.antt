@@ -1,6 +1,5 @@
 -- The yes-or-no keeps its promise. Assumes nothing.
 use mathlib.Core.List.{[], ◌∷◌}
-use borrow.Author.Rules.{rules}
 use borrow.Author.Tests.{not-true, not-false}
 use lib.ListN.{length}
 use Rattle.handed.specs.Handed.{Sound}

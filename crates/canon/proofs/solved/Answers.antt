@@ -1,5 +1,4 @@
 -- The least canon from a start is grown and completed. Assumes nothing.
-use borrow.Author.Rules.{rules}
 use borrow.Author.Tests.{not-true, not-false}
 use Rattle.canon.proofs.Solving.{found_none, found_whole}
 use Rattle.canon.proofs.solved.Goals as goal

@@ -8,7 +8,7 @@ use Rattle.sheet.specs.Labels.{width}
 use Rattle.lines.proofs.put_label.Given as goal
 
 abbrev pub invariant-loop-i : goal.invariant-loop-i
-invariant-loop-i l =     (l.labels ≡ paste l.initial.labels l.at l.line l.i)
+invariant-loop-i l = (l.labels ≡ paste l.initial.labels l.at l.line l.i)
     × (l.i ≤ length l.line)
     × (l.at + length l.line ≤ width * row_limit)
     × (length l.initial.labels ≡ width * row_limit)

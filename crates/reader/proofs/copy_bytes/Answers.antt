@@ -1,13 +1,9 @@
 -- The bytes so far are copied, the others stay. Assumes nothing.
-use borrow.Author.Rules.{rules}
 use native.Mathlib.Omega.{arith}
 use Rattle.sheet.proofs.Bytes.{copy_next}
-use Prim.Native.Nat.{◌*◌, ◌≤◌, ◌-◌}
 use mathlib.Core.Path.{◌≡◌, refl, ap, ◌∙◌}
 use mathlib.Core.List.{◌++◌}
-use lib.ListN.{length, get_or, set, take, drop, length-set}
-use Rattle.theory.specs.Limits.{row_limit}
-use Rattle.sheet.specs.Labels.{width}
+use lib.ListN.{get_or, set, take, drop, length-set}
 use Rattle.reader.proofs.copy_bytes.Goals as goal
 
 pub loop-i-init : goal.loop-i-init

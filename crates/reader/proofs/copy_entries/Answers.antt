@@ -1,14 +1,12 @@
 -- The entries so far are copied, the others stay. Assumes nothing.
 use native.Mathlib.Omega.{arith}
 use Rattle.sheet.proofs.Bytes.{copy_next}
-use Prim.Native.Nat.{◌*◌, ◌≤◌, ◌-◌}
 use mathlib.Core.Path.{◌≡◌, refl, ap, ◌∙◌}
 use mathlib.Core.List.{◌++◌}
-use lib.ListN.{length, get_or, set, take, drop, length-set}
+use lib.ListN.{get_or, set, take, drop, length-set}
 use mir.Syntax.{w16}
 use lib.IntN.{pos}
 use Rattle.orders.proofs.Entries.{back}
-use Rattle.theory.specs.Limits.{row_limit}
 use Rattle.reader.proofs.copy_entries.Goals as goal
 
 pub loop-i-init : goal.loop-i-init

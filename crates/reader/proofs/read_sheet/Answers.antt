@@ -1,6 +1,5 @@
 -- The reader tests lengths, walks the sheet, and copies out what was kept. Assumes nothing.
 use mathlib.Core.Logic.{inl, inr}
-use borrow.Author.Rules.{rules}
 use native.Mathlib.Omega.{arith}
 use Rattle.reader.specs.Promise.{Lent, lent, Wanted}
 use Rattle.reader.proofs.WalkLaws.{holds_nothing, places_few, table_whole, rows_whole, cols_whole}

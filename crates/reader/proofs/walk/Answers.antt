@@ -2,13 +2,11 @@
 use borrow.Author.Rules.{rules}
 use native.Mathlib.Omega.{arith}
 use mathlib.Core.Path.{refl}
-use Prim.Native.Nat.{◌+◌, ◌-◌, ◌≤◌}
+use Prim.Native.Nat.{◌≤◌}
 use lib.ListN.{length}
-use mir.Syntax.{w64}
-use mir.Val.{Fits}
 use Rattle.sheet.proofs.Bytes.{rest as from}
-use Rattle.lines.specs.Parts.{HeadingIs, store}
-use Rattle.reader.proofs.WalkLaws.{BeforeHeading, BeforeLine, sections_left, next_line, walk_start, heading_wrong, heading_passed}
+use Rattle.lines.specs.Parts.{HeadingIs}
+use Rattle.reader.proofs.WalkLaws.{next_line, walk_start, heading_wrong, heading_passed}
 use Rattle.reader.proofs.WalkLaws.{line_within, line_due, line_wrong, line_passed, rows_done, cols_done, sheet_ends, sheet_goes_on}
 use Rattle.reader.proofs.WalkLaws.{walk_wrong, walk_good}
 use Rattle.reader.proofs.walk.Goals as goal

@@ -1,5 +1,4 @@
 -- The sheet is measured section by section. Assumes nothing.
-use borrow.Author.Rules.{rules}
 use native.Mathlib.Omega.{arith}
 use Prim.Native.Nat.{◌*◌, ◌≤◌}
 use mathlib.Core.Path.{ap}

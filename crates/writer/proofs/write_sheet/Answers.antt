@@ -1,5 +1,4 @@
 -- The writer tests what it is handed, measures the sheet, and then writes it. Assumes nothing.
-use borrow.Author.Rules.{rules}
 use native.Mathlib.Omega.{arith}
 use mathlib.Core.Logic.{inl, inr}
 use borrow.Author.Tests.{not-true, not-false}

@@ -10,7 +10,7 @@ use borrow.Author.Count.{below_more}
 use lib.ListN.{length, set, length-set, replicate, length-replicate}
 use lib.Seq.{get_or-set_same, get_or-set_other}
 use Rattle.theory.specs.Limits.{row_limit}
-use Rattle.theory.specs.Lists.{nums, columns, StarList}
+use Rattle.theory.specs.Lists.{nums, StarList}
 use Rattle.theory.proofs.Pigeonhole.{onto}
 use Rattle.orders.specs.Places.{Marks}
 use Rattle.orders.proofs.Entries.{clash}

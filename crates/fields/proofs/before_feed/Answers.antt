@@ -1,11 +1,6 @@
 -- The first line feed is looked for. Assumes nothing.
-use borrow.Author.Rules.{rules}
 use native.Mathlib.Omega.{arith}
-use Prim.Native.Nat.{ℕ, ◌≤◌, ◌<◌, ◌-◌}
-use mathlib.Core.Logic.{◌≢◌}
 use borrow.Author.Count.{below_more}
-use lib.ListN.{length, get_or}
-use Rattle.sheet.specs.Text.{feed}
 use Rattle.fields.proofs.before_feed.Goals as goal
 
 pub loop-i-init : goal.loop-i-init

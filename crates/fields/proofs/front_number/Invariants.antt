@@ -1,15 +1,7 @@
 -- The number so far is the value of the digits passed; it ends at the first byte that is no digit. Assumes nothing.
-use borrow.Author.Rules.{rules}
-use native.Mathlib.Omega.{arith}
-use Prim.Native.Nat.{ℕ, ◌+◌, ◌-◌, ◌*◌, ◌≤◌}
-use mathlib.Core.Path.{refl}
-use mathlib.Core.Logic.{⊎_elim}
-use mathlib.Core.List.{List}
-use borrow.Author.Tests.{not-true, not-false}
-use lib.ListN.{length, get_or}
-use Rattle.sheet.specs.Text.{Digit}
-use Rattle.fields.proofs.Answers.{front_found, front_none}
-use Rattle.fields.proofs.NumberLaws.{SoFar, none, one_more, ends_here, leading_zero, above_limit, no_digit, stops_end, stops_byte}
+use Prim.Native.Nat.{◌-◌, ◌≤◌}
+use lib.ListN.{length}
+use Rattle.fields.proofs.NumberLaws.{SoFar}
 use Rattle.fields.proofs.front_number.Given as goal
 
 abbrev pub invariant-loop-i : goal.invariant-loop-i

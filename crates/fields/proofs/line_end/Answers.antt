@@ -1,5 +1,4 @@
 -- A line feed that is found ends a line. Assumes nothing.
-use borrow.Author.Rules.{rules}
 use Rattle.fields.proofs.Answers.{count_found, count_none}
 use Rattle.fields.proofs.LineLaws.{line_found, line_none}
 use Rattle.fields.proofs.line_end.Goals as goal

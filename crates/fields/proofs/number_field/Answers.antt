@@ -1,5 +1,4 @@
 -- A number from 1 on with a blank after it. Assumes nothing.
-use borrow.Author.Rules.{rules}
 use native.Mathlib.Omega.{arith}
 use Rattle.fields.specs.Fields.{FrontIs}
 use Rattle.fields.proofs.Answers.{front_found, front_none}

@@ -1,5 +1,4 @@
 -- A minus and a number that is not 0, or a number. Assumes nothing.
-use borrow.Author.Rules.{rules}
 use native.Mathlib.Omega.{arith}
 use Rattle.fields.proofs.Answers.{signed_found, signed_none}
 use Rattle.sheet.proofs.Bytes.{rest}

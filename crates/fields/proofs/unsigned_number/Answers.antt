@@ -1,5 +1,4 @@
 -- A number that takes the whole text. Assumes nothing.
-use borrow.Author.Rules.{rules}
 use Rattle.fields.specs.Fields.{FrontIs}
 use Rattle.fields.proofs.Answers.{count_found, count_none}
 use Rattle.fields.proofs.NumberLaws.{no_number, bytes_behind, all_of_it}

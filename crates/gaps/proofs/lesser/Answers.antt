@@ -1,8 +1,6 @@
 -- The lesser of two gaps, the new one counted as one more where its column is marked. Assumes nothing.
-use mathlib.Core.Logic.{inl, inr}
 use Prim.Native.Nat.{◌≤◌}
 use native.Mathlib.Omega.{arith}
-use borrow.Author.Rules.{rules}
 use Rattle.gaps.proofs.Gaps.{lesser_kept, lesser_taken}
 use Rattle.gaps.proofs.lesser.Goals as goal
 use Rattle.gaps.proofs.lesser.Goals.{Joined-unmarked, then-unmarked, else-unmarked}

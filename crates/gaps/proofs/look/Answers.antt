@@ -1,14 +1,11 @@
 -- The gaps of the unset columns, one after the other, with one more row in the tree. Assumes nothing.
 use mathlib.Core.Path.{◌≡◌}
-use mathlib.Core.Logic.{inl, inr}
-use Prim.Native.Nat.{◌-◌, ◌≤◌}
 use native.Mathlib.Omega.{arith}
-use borrow.Author.Rules.{rules, sfits_of}
-use borrow.Author.Tests.{not-true, not-false}
+use borrow.Author.Rules.{sfits_of}
 use mir.Syntax.{w16}
 use mir.Facts.{to_z-of_z}
 use Rattle.theory.specs.Lists.{ints}
-use Rattle.gaps.proofs.Passes.{Looking, head_fits, look_start, look_skip, look_take}
+use Rattle.gaps.proofs.Passes.{head_fits, look_start, look_skip, look_take}
 use Rattle.gaps.proofs.look.Goals as goal
 use Rattle.gaps.proofs.look.Goals.{then-not-reached-j, else-not-reached-j}
 

@@ -1,7 +1,6 @@
 -- A gap is narrowed, and `no_gap` stays. Assumes nothing.
 use Prim.Native.Nat.{◌<◌}
 use native.Mathlib.Omega.{arith}
-use borrow.Author.Rules.{rules}
 use Rattle.gaps.specs.Steps.{no_gap}
 use Rattle.gaps.proofs.narrowed.Goals as goal
 

@@ -1,11 +1,10 @@
 -- The rows of the tree and the reached columns are raised, one after the other, and the gaps narrowed. Assumes nothing.
 use mathlib.Core.Path.{◌≡◌}
-use Prim.Native.Nat.{◌-◌, ◌≤◌}
 use native.Mathlib.Omega.{arith}
-use borrow.Author.Rules.{rules, sfits_of}
+use borrow.Author.Rules.{sfits_of}
 use mir.Facts.{to_z-of_z}
 use Rattle.theory.specs.Lists.{ints}
-use Rattle.gaps.proofs.Passes.{RisenTo, head_fits, rise_none, rise_start, rise_add, rise_head, rise_gap, rise_step}
+use Rattle.gaps.proofs.Passes.{head_fits, rise_none, rise_start, rise_add, rise_head, rise_gap, rise_step}
 use Rattle.gaps.proofs.rise_by.Goals as goal
 
 pub returns-then-rise-eq0 : goal.returns-then-rise-eq0

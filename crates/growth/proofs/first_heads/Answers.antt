@@ -1,6 +1,5 @@
 -- The head of each column under the start, or a column with no order. Assumes nothing.
 use mathlib.Core.Path.{◌≡◌, refl}
-use Prim.Native.Nat.{◌-◌, ◌≤◌}
 use native.Mathlib.Omega.{arith}
 use borrow.Author.Rules.{rules}
 use mir.Syntax.{w32}
@@ -8,7 +7,7 @@ use mir.Val.{SFits}
 use mir.Facts.{to_z-of_z}
 use Rattle.theory.proofs.Ties.{no_row_none}
 use Rattle.orders.proofs.Entries.{clash}
-use Rattle.growth.proofs.Heads.{HeadsTo, heads_step}
+use Rattle.growth.proofs.Heads.{heads_step}
 use Rattle.growth.proofs.first_heads.Goals as goal
 
 pub loop-j-init : goal.loop-j-init

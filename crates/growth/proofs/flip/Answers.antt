@@ -1,13 +1,9 @@
 -- The way back from an unmarked column to row s. Assumes nothing.
 use mathlib.Core.Path.{◌∙◌}
-use Prim.Native.Nat.{ℕ}
 use native.Mathlib.Omega.{arith}
-use lib.IntN.{ℤ}
 use lib.ListN.{length-set}
 use Rattle.theory.specs.Lists.{nums}
-use Rattle.orders.specs.Held.{Long}
-use Rattle.growth.specs.Growing.{WayBack}
-use Rattle.growth.proofs.Flipping.{Open, open_start, before, open_step, open_still, open_end, same_fewer, still_same}
+use Rattle.growth.proofs.Flipping.{open_start, before, open_step, open_still, open_end, same_fewer}
 use Rattle.orders.proofs.Stores.{put_nums}
 use Rattle.growth.proofs.flip.Goals as goal
 

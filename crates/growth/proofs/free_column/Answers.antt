@@ -1,5 +1,4 @@
 -- The columns are tried one after the other. Assumes nothing.
-use Prim.Native.Nat.{◌-◌, ◌≤◌}
 use native.Mathlib.Omega.{arith}
 use borrow.Author.Rules.{rules, sfits_of}
 use mir.Syntax.{w16, w32}

@@ -1,16 +1,9 @@
 -- The rows are inserted one after the other; when all are, the additions are the least canon from the start. Assumes nothing.
 use mathlib.Core.Path.{◌≡◌, refl}
-use mathlib.Core.Bool.{true, false}
-use Prim.Native.Nat.{◌-◌, ◌≤◌}
 use native.Mathlib.Omega.{arith}
 use borrow.Author.Rules.{rules}
 use borrow.Author.Tests.{ltb-true, ltb-false}
-use Rattle.theory.specs.Lists.{nums}
-use Rattle.theory.specs.Table.{entry}
-use Rattle.theory.specs.Canon.{NoTransversal}
 use Rattle.orders.proofs.Entries.{clash}
-use Rattle.orders.specs.Held.{Long}
-use Rattle.growth.specs.Growing.{Ready}
 use Rattle.growth.proofs.Inserting.{first_ready, grown_least, grown_marks}
 use Rattle.growth.proofs.grow.Goals as goal
 

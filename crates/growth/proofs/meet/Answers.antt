@@ -1,6 +1,5 @@
 -- Row s is tight in an unmarked column, or a tree grows from it. Assumes nothing.
 use native.Mathlib.Omega.{arith}
-use borrow.Author.Rules.{rules}
 use Rattle.growth.proofs.Inserting.{met_at_once}
 use Rattle.growth.proofs.meet.Goals as goal
 

@@ -1,12 +1,8 @@
 -- Rows join the tree of row s, one after the other, until an unmarked column is tight. Assumes nothing.
-use mathlib.Core.List.{List}
-use Prim.Native.Nat.{ℕ, ◌<◌}
+use Prim.Native.Nat.{◌<◌}
 use native.Mathlib.Omega.{arith}
-use Rattle.theory.specs.Lists.{flags}
 use Rattle.gaps.specs.Steps.{no_gap}
-use Rattle.growth.specs.Growing.{Ready}
-use Rattle.growth.proofs.Inserting.{Searching, begin, joining, closed, end_inside, rising, meeting, fewer, joined}
-use Rattle.orders.proofs.Flags.{unset}
+use Rattle.growth.proofs.Inserting.{begin, joining, closed, end_inside, rising, meeting, fewer, joined}
 use Rattle.growth.proofs.reach.Goals as goal
 
 pub loop-tree-init : goal.loop-tree-init

@@ -1,12 +1,7 @@
 -- The additions are tested one after the other. Assumes nothing.
 use mathlib.Core.Path.{refl}
-use Prim.Native.Nat.{ℕ, ◌-◌, ◌≤◌, ◌<◌}
 use native.Mathlib.Omega.{arith}
 use borrow.Author.Count.{below_more}
-use borrow.Author.Rules.{rules}
-use lib.ListN.{length}
-use Rattle.theory.specs.Limits.{addition_limit}
-use Rattle.theory.specs.Lists.{nums}
 use Rattle.orders.proofs.Entries.{clash}
 use Rattle.handed.proofs.additions_stand.Goals as goal
 

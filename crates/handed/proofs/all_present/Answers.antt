@@ -1,11 +1,8 @@
 -- The place of each row is tested. Assumes nothing.
 use mathlib.Core.Path.{sym, ◌∙◌}
-use Prim.Native.Nat.{ℕ, ◌-◌, ◌≤◌, ◌<◌}
 use native.Mathlib.Omega.{arith}
 use borrow.Author.Count.{below_more}
-use borrow.Author.Rules.{rules, sfits_of}
-use Rattle.theory.specs.Lists.{nums}
-use Rattle.theory.specs.Table.{Present, entry}
+use borrow.Author.Rules.{sfits_of}
 use Rattle.orders.proofs.Entries.{tells_yes, tells_no, absent_bits, present_bits}
 use Rattle.handed.proofs.all_present.Goals as goal
 

@@ -1,11 +1,7 @@
 -- A lent slice is held by value. Assumes nothing.
-use mathlib.Core.Path.{◌≡◌, refl}
-use Prim.Native.Nat.{◌-◌, ◌≤◌}
+use mathlib.Core.Path.{refl}
 use native.Mathlib.Omega.{arith}
-use borrow.Author.Rules.{rules}
-use lib.ListN.{length}
-use Rattle.theory.specs.Lists.{nums}
-use Rattle.orders.proofs.Sweeps.{Swept, swept_start, swept_set}
+use Rattle.orders.proofs.Sweeps.{swept_start, swept_set}
 use Rattle.handed.proofs.held.Goals as goal
 
 pub loop-i-init : goal.loop-i-init

@@ -1,11 +1,9 @@
 -- A lent slice is held by value. Assumes nothing.
-use mathlib.Core.Path.{◌≡◌, refl}
+use mathlib.Core.Path.{◌≡◌}
 use Prim.Native.Nat.{◌-◌, ◌≤◌}
-use native.Mathlib.Omega.{arith}
-use borrow.Author.Rules.{rules}
 use lib.ListN.{length}
 use Rattle.theory.specs.Lists.{nums}
-use Rattle.orders.proofs.Sweeps.{Swept, swept_start, swept_set}
+use Rattle.orders.proofs.Sweeps.{Swept}
 use Rattle.handed.proofs.held.Given as goal
 
 abbrev pub invariant-loop-i : goal.invariant-loop-i

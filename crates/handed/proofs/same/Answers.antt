@@ -1,10 +1,6 @@
 -- Two arrays are compared. Assumes nothing.
-use mathlib.Core.Path.{◌≡◌}
-use Prim.Native.Nat.{ℕ, ◌-◌, ◌≤◌, ◌<◌}
 use native.Mathlib.Omega.{arith}
 use borrow.Author.Count.{below_more}
-use borrow.Author.Rules.{rules}
-use Rattle.theory.specs.Lists.{nums}
 use Rattle.orders.proofs.Entries.{tells_yes, tells_no}
 use Rattle.handed.proofs.same.Goals as goal
 

@@ -1,7 +1,6 @@
 -- The first three refusals are tested in their order. Assumes nothing.
 use mathlib.Core.Logic.{inl, inr}
 use native.Mathlib.Omega.{arith}
-use borrow.Author.Rules.{rules}
 use borrow.Author.Tests.{not-true, not-false}
 use Rattle.orders.proofs.Places.{square_small}
 use Rattle.handed.proofs.Basics.{wrong_entry, basic_size, basic_lengths, basic_entries, basic_sound}

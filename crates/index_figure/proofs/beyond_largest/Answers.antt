@@ -1,5 +1,4 @@
 -- The three ways to what the figure has beyond the largest addition. Assumes nothing.
-use borrow.Author.Rules.{rules}
 use mathlib.Core.Path.{refl}
 use Rattle.index_figure.specs.Parts.{kept, one, none}
 use Rattle.index_figure.proofs.beyond_largest.Goals as goal

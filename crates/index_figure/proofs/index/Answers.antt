@@ -1,6 +1,5 @@
 -- The largest addition and what the figure has beyond it. Assumes nothing.
 use native.Mathlib.Omega.{arith}
-use borrow.Author.Rules.{rules}
 use Rattle.index_figure.proofs.Searching.{figure, figure_small}
 use Rattle.index_figure.proofs.index.Goals as goal
 

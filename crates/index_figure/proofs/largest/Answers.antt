@@ -1,12 +1,9 @@
 -- The largest so far is one of the additions, and none of those passed exceeds it. Assumes nothing.
 use borrow.Author.Rules.{rules}
 use native.Mathlib.Omega.{arith}
-use Prim.Native.Nat.{◌-◌, ◌≤◌}
 use mathlib.Core.Path.{◌≡◌}
-use mathlib.Core.Logic.{inl, inr}
 use lib.ListN.{length}
 use Rattle.theory.specs.Lists.{nums}
-use Rattle.theory.specs.Canon.{LargestAddition}
 use Rattle.theory.proofs.Index.{largest_first, largest_kept, largest_new}
 use Rattle.index_figure.proofs.largest.Goals as goal
 use Rattle.index_figure.proofs.largest.Goals.{then-most-adds, else-most-adds}

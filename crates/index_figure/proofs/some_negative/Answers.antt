@@ -1,13 +1,10 @@
 -- Every entry of a table is tested for a negative order. Assumes nothing.
 use mathlib.Core.Path.{◌≡◌}
-use Prim.Native.Nat.{ℕ, ◌-◌, ◌≤◌, ◌<◌}
 use native.Mathlib.Omega.{arith}
 use borrow.Author.Rules.{rules}
 use lib.IntN.{pos}
 use lib.ListN.{length, get_or}
 use mir.Syntax.{w16}
-use Rattle.theory.specs.Table.{Negative}
-use Rattle.orders.specs.Tested.{Tells}
 use Rattle.orders.proofs.Entries.{tells_no, tells_some, back}
 use Rattle.index_figure.proofs.some_negative.Goals as goal
 

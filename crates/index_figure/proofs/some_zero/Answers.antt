@@ -1,12 +1,9 @@
 -- Every head is tested. Assumes nothing.
 use mathlib.Core.Path.{◌≡◌}
-use Prim.Native.Nat.{ℕ, ◌-◌, ◌≤◌, ◌<◌}
 use native.Mathlib.Omega.{arith}
 use borrow.Author.Rules.{rules}
-use lib.IntN.{pos}
 use lib.ListN.{length}
 use Rattle.theory.specs.Lists.{ints}
-use Rattle.orders.specs.Tested.{Tells}
 use Rattle.orders.proofs.Entries.{tells_no, tells_some}
 use Rattle.index_figure.proofs.Searching.{zero_told}
 use Rattle.index_figure.proofs.some_zero.Goals as goal

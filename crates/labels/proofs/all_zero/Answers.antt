@@ -1,9 +1,5 @@
 -- Bytes are tested one after the other. Assumes nothing.
-use borrow.Author.Rules.{rules}
 use native.Mathlib.Omega.{arith}
-use Prim.Native.Nat.{ℕ, ◌-◌, ◌≤◌, ◌<◌}
-use mathlib.Core.Path.{◌≡◌}
-use lib.ListN.{length, get_or}
 use Rattle.orders.proofs.Entries.{tells_yes, tells_no}
 use borrow.Author.Count.{below_more}
 use Rattle.labels.proofs.all_zero.Goals as goal

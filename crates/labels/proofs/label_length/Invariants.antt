@@ -1,10 +1,7 @@
 -- The first zero byte is looked for. Assumes nothing.
-use borrow.Author.Rules.{rules}
-use native.Mathlib.Omega.{arith}
 use Prim.Native.Nat.{◌+◌, ◌-◌, ◌≤◌}
 use mathlib.Core.Path.{◌≡◌}
 use lib.ListN.{length, drop}
-use Rattle.labels.proofs.SlotLaws.{label_end, label_zero, label_more}
 use Rattle.labels.specs.Parts.{label_of}
 use Rattle.labels.proofs.label_length.Given as goal
 

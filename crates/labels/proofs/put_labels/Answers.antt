@@ -5,7 +5,6 @@ use Prim.Native.Nat.{ℕ, ◌+◌, ◌-◌, ◌*◌, ◌≤◌}
 use mathlib.Core.Path.{◌≡◌, refl, sym, ap}
 use mathlib.Core.List.{List}
 use lib.ListN.{length, take, drop}
-use Rattle.lettering.specs.Putting.{Puts}
 use Rattle.lettering.proofs.PutLaws.{puts_none, puts_same, puts_length, FirstPut, tail_inside, tail_room, total_fits, both_put}
 use Rattle.sheet.specs.Labels.{width, slot}
 use Rattle.sheet.specs.Sheet.{ended_lines}

@@ -1,7 +1,5 @@
 -- The bytes so far are copied, the others stay. Assumes nothing.
-use borrow.Author.Rules.{rules}
 use native.Mathlib.Omega.{arith}
-use Prim.Native.Nat.{◌-◌, ◌≤◌}
 use mathlib.Core.Path.{◌≡◌, refl, ap, ◌∙◌}
 use lib.ListN.{length, get_or, set, take, drop, length-set}
 use mathlib.Core.List.{◌++◌}

@@ -1,12 +1,8 @@
 -- The bytes so far are copied, the others stay. Assumes nothing.
-use borrow.Author.Rules.{rules}
-use native.Mathlib.Omega.{arith}
 use Prim.Native.Nat.{◌-◌, ◌≤◌}
-use mathlib.Core.Path.{◌≡◌, refl, ap, ◌∙◌}
-use lib.ListN.{length, get_or, set, take, drop, length-set}
+use mathlib.Core.Path.{◌≡◌}
+use lib.ListN.{length, take, drop}
 use mathlib.Core.List.{◌++◌}
-use Rattle.sheet.proofs.Bytes.{copy_next}
-use lib.Seq.{take-length}
 use Rattle.lettering.proofs.put.Given as goal
 
 abbrev pub invariant-loop-i : goal.invariant-loop-i

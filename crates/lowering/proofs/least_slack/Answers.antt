@@ -1,12 +1,9 @@
 -- The unsettled row with the least slack. Assumes nothing.
 use mathlib.Core.Path.{◌≡◌, refl}
-use mathlib.Core.Logic.{inl, inr}
-use Prim.Native.Nat.{◌-◌, ◌≤◌, ◌<◌}
+use Prim.Native.Nat.{◌<◌}
 use native.Mathlib.Omega.{arith}
-use borrow.Author.Tests.{not-true, not-false}
 use Rattle.orders.proofs.Entries.{clash}
-use Rattle.lowering.specs.Descent.{LeastSlack}
-use Rattle.lowering.proofs.Slack.{slack, slack_start, slack_taken, slack_passed}
+use Rattle.lowering.proofs.Slack.{slack_start, slack_taken, slack_passed}
 use Rattle.lowering.proofs.least_slack.Goals as goal
 use Rattle.lowering.proofs.least_slack.Goals.{then-not-settled-i+then-best-n, then-not-settled-i+else-best-n+then-slack-least, then-not-settled-i+else-best-n+else-slack-least, else-not-settled-i}
 

@@ -1,9 +1,8 @@
 -- The fall from a canon to the least canon from the floors. Assumes nothing.
 use native.Mathlib.Omega.{arith}
-use Rattle.orders.proofs.Flags.{unset, unset_fewer}
+use Rattle.orders.proofs.Flags.{unset_fewer}
 use Rattle.orders.proofs.Stores.{put_flags}
-use Rattle.lowering.proofs.Descent.{Going, going_start, going_open, going_spare, going_under, going_falling, going_step, going_end}
-use Rattle.theory.specs.Lists.{flags}
+use Rattle.lowering.proofs.Descent.{going_start, going_open, going_spare, going_under, going_falling, going_step, going_end}
 use mathlib.Core.Bool.{true}
 use Rattle.lowering.proofs.lower.Goals as goal
 

@@ -1,15 +1,11 @@
 -- Every unsettled row falls. Assumes nothing.
 use mathlib.Core.Path.{◌≡◌}
-use mathlib.Core.Logic.{inl, inr}
-use Prim.Native.Nat.{◌-◌, ◌≤◌}
 use native.Mathlib.Omega.{arith}
 use borrow.Author.Rules.{rules}
-use borrow.Author.Tests.{not-true, not-false}
+use borrow.Author.Tests.{not-true}
 use Rattle.theory.specs.Limits.{row_limit}
-use Rattle.theory.specs.Lists.{nums, flags}
 use lib.ListN.{length}
-use Rattle.orders.proofs.Sweeps.{Swept, swept_start, swept_set, swept_keep}
-use Rattle.lowering.specs.Descent.{Fallen}
+use Rattle.orders.proofs.Sweeps.{swept_start, swept_set, swept_keep}
 use Rattle.lowering.proofs.Descent.{fallen_open, fallen_settled}
 use Rattle.lowering.proofs.lowered.Goals as goal
 use Rattle.lowering.proofs.lowered.Goals.{then-not-settled-i, else-not-settled-i}

@@ -1,7 +1,7 @@
 -- The least addition that keeps an order a maximum beside another. Assumes nothing.
 use mathlib.Core.Path.{◌≡◌, ◌∙◌}
 use native.Mathlib.Omega.{arith}
-use borrow.Author.Rules.{rules, sfits_of}
+use borrow.Author.Rules.{sfits_of}
 use lib.IntN.{pos, ◌+ℤ◌}
 use mir.Syntax.{w16, w32}
 use mir.Val.{SFits}

@@ -1,16 +1,12 @@
 -- The floors once one more row is settled. Assumes nothing.
 use mathlib.Core.Path.{◌≡◌, sym, ◌∙◌}
-use mathlib.Core.Logic.{inl, inr}
-use Prim.Native.Nat.{◌-◌, ◌≤◌, ◌<◌}
+use Prim.Native.Nat.{◌<◌}
 use native.Mathlib.Omega.{arith}
 use borrow.Author.Rules.{rules, sfits_of}
 use lib.ListN.{length}
 use Rattle.theory.specs.Limits.{row_limit}
-use Rattle.theory.specs.Lists.{nums}
-use Rattle.theory.specs.Table.{entry}
 use Rattle.orders.proofs.Entries.{absent_bits, present_bits}
-use Rattle.orders.proofs.Sweeps.{Swept, swept_start, swept_set, swept_keep}
-use Rattle.lowering.specs.Descent.{PulledAt}
+use Rattle.orders.proofs.Sweeps.{swept_start, swept_set, swept_keep}
 use Rattle.lowering.proofs.Pulls.{pull_told, pulled_absent, pulled_kept, pulled_raised}
 use Rattle.lowering.proofs.pulled.Goals as goal
 use Rattle.lowering.proofs.pulled.Goals.{then-other+then-next-i, then-other+else-next-i, else-other}
@@ -59,12 +55,12 @@ loop-i-preserved c =
             (pulled_raised _ _ _ _ _ _ (rw p.ensures at (present_bits p.result w.if-other.true))
             (pull_told (sfits_of p.type_inv) (sfits_of w.place.type_inv) p.ensures w.place.ensures w.pull-least.ensures)
             (omega (arith, w.if-next-i.true, s.rest l.i (omega arith)))))
-      | then-other+else-next-i w ↦ rw w.next-is
+        | then-other+else-next-i w ↦ rw w.next-is
             (swept_keep _ _ s
             (pulled_kept _ _ _ _ _ _
             (pull_told (sfits_of p.type_inv) (sfits_of w.place.type_inv) p.ensures w.place.ensures w.pull-least.ensures)
             (omega (arith, w.if-next-i.false, s.rest l.i (omega arith)))))
-      | else-other w ↦ rw w.next-is
+        | else-other w ↦ rw w.next-is
             (swept_keep _ _ s (pulled_absent _ _ _ _ _ _ (sym p.ensures ∙ absent_bits _ (sfits_of p.type_inv) w.if-other.false)))
       ],
     )

@@ -1,13 +1,11 @@
 -- The lengths of the order lines are added up. Assumes nothing.
-use borrow.Author.Rules.{rules}
 use native.Mathlib.Omega.{arith}
-use Prim.Native.Nat.{◌-◌, ◌*◌, ◌≤◌}
+use Prim.Native.Nat.{◌≤◌}
 use mathlib.Core.Path.{◌≡◌, refl, ap, ◌∙◌}
 use lib.IntN.{ℤ, pos}
 use lib.ListN.{length, get_or, take, length-append}
 use lib.Seq.{take-length}
 use mir.Syntax.{w16}
-use Rattle.orders.specs.Places.{Square}
 use Rattle.orders.proofs.Entries.{back}
 use Rattle.orders.proofs.Places.{square_small}
 use Rattle.sheet.specs.Sheet.{ended_lines, order_lines}

@@ -1,11 +1,9 @@
 -- The present places so far are counted. Assumes nothing.
-use borrow.Author.Rules.{rules}
 use native.Mathlib.Omega.{arith}
-use Prim.Native.Nat.{◌+◌, ◌-◌, ◌≤◌, ◌<◌}
+use Prim.Native.Nat.{◌+◌, ◌<◌}
 use mathlib.Core.Path.{◌≡◌, refl, sym, ap, ◌∙◌}
 use lib.ListN.{length, get_or, take}
 use Rattle.order_lines.proofs.OrderLaws.{absent_bits_is, absent_bits_not, count_absent_next, count_present_next}
-use mathlib.Core.Logic.{inl, inr}
 use mir.Syntax.{w16}
 use mir.Val.{SFits}
 use lib.IntN.{pos}

@@ -1,14 +1,13 @@
 -- The order lines so far are written, and the tail of the room is lent on. Assumes nothing.
 use borrow.Author.Rules.{rules}
 use native.Mathlib.Omega.{arith}
-use Prim.Native.Nat.{ℕ, ◌+◌, ◌-◌, ◌*◌, ◌≤◌}
+use Prim.Native.Nat.{ℕ, ◌+◌}
 use mathlib.Core.Path.{◌≡◌, refl, sym, ap, ◌∙◌}
 use mathlib.Core.List.{List}
 use lib.IntN.{ℤ, pos}
 use lib.ListN.{length, get_or, take}
 use lib.Seq.{take-length}
 use mir.Syntax.{w16}
-use Rattle.lettering.specs.Putting.{Puts}
 use Rattle.lettering.proofs.PutLaws.{puts_none, puts_same, puts_length, FirstPut, tail_inside, tail_room, total_fits, both_put}
 use Rattle.orders.proofs.Entries.{back}
 use Rattle.sheet.specs.Sheet.{ended_lines, order_lines}

@@ -1,6 +1,6 @@
 -- The ways through the count of one more entry. Assumes nothing.
 use mathlib.Core.Path.{◌≡◌, sym, ◌∙◌}
-use borrow.Author.Rules.{rules, sfits_of}
+use borrow.Author.Rules.{sfits_of}
 use lib.IntN.{pos, ◌+ℤ◌}
 use mir.Syntax.{w32}
 use mir.Val.{SFits}

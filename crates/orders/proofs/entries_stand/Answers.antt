@@ -1,14 +1,10 @@
 -- Every entry of a table is tested. Assumes nothing.
 use mathlib.Core.Path.{◌≡◌}
-use Prim.Native.Nat.{ℕ, ◌-◌, ◌≤◌, ◌<◌}
 use native.Mathlib.Omega.{arith}
 use borrow.Author.Rules.{rules}
 use lib.IntN.{pos}
 use lib.ListN.{length, get_or}
 use mir.Syntax.{w16}
-use Rattle.theory.specs.Table.{Present, Order}
-use Rattle.theory.specs.Limits.{order_limit}
-use Rattle.orders.specs.Tested.{Tells}
 use Rattle.orders.proofs.Entries.{tells_yes, tells_below, back}
 use Rattle.orders.proofs.entries_stand.Goals as goal
 

@@ -1,6 +1,5 @@
 -- One entry is tested. Assumes nothing.
 use mir.Facts.{to_z-of_z}
-use borrow.Author.Rules.{rules}
 use Rattle.theory.specs.Limits.{order_limit}
 use Rattle.orders.proofs.Entries.{entry_absent, entry_low, entry_high}
 use Rattle.orders.proofs.entry_stands.Goals as goal

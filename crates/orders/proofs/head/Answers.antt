@@ -1,9 +1,8 @@
 -- Head, lowest row and count of a column, one row after the other. Assumes nothing.
 use mathlib.Core.Path.{◌≡◌}
-use Prim.Native.Nat.{◌-◌, ◌≤◌}
 use native.Mathlib.Numerals.{add-one}
 use native.Mathlib.Omega.{arith}
-use borrow.Author.Rules.{rules, sfits_of}
+use borrow.Author.Rules.{sfits_of}
 use mir.Syntax.{w16, w32}
 use mir.Val.{to_z}
 use mir.Facts.{to_z-of_z}

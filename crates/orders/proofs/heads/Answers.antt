@@ -1,12 +1,11 @@
 -- Head, lowest row and count of each column, one column after the other. Assumes nothing.
 use mathlib.Core.Path.{◌≡◌, refl}
-use Prim.Native.Nat.{◌-◌, ◌≤◌}
 use native.Mathlib.Omega.{arith}
 use borrow.Author.Rules.{rules}
 use mir.Syntax.{w32}
 use mir.Val.{SFits}
 use mir.Facts.{to_z-of_z}
-use Rattle.orders.proofs.Places.{TopsTo, tops_step}
+use Rattle.orders.proofs.Places.{tops_step}
 use Rattle.orders.proofs.heads.Goals as goal
 
 pub loop-j-init : goal.loop-j-init

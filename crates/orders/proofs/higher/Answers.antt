@@ -1,5 +1,5 @@
 -- The larger of a height and one more raised order. Assumes nothing.
-use borrow.Author.Rules.{rules, sfits_of}
+use borrow.Author.Rules.{sfits_of}
 use mir.Syntax.{w32}
 use mir.Facts.{to_z-of_z}
 use Rattle.orders.proofs.Entries.{absent_bits, present_bits, read_le, read_gt}

@@ -1,6 +1,5 @@
 -- One place is read. Assumes nothing.
 use native.Mathlib.Omega.{arith}
-use borrow.Author.Rules.{rules}
 use Rattle.orders.proofs.Places.{cell, square_small}
 use Rattle.orders.proofs.place.Goals as goal
 

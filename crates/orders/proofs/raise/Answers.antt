@@ -1,7 +1,6 @@
 -- An order is raised: both numbers are widened to 32 bits, and the sum fits. Assumes nothing.
 use Prim.Native.Nat.{◌<◌, ◌^◌}
 use native.Mathlib.Omega.{arith}
-use borrow.Author.Rules.{rules}
 use lib.IntN.{pos, ◌+ℤ◌}
 use mir.Syntax.{w16, w32}
 use mir.Val.{SFits}

@@ -1,5 +1,5 @@
 -- Whether a raised order is the head. Assumes nothing.
-use borrow.Author.Rules.{rules, sfits_of}
+use borrow.Author.Rules.{sfits_of}
 use mir.Facts.{to_z-of_z}
 use Rattle.orders.proofs.Entries.{tight_absent, tight_present}
 use Rattle.orders.proofs.tight.Goals as goal

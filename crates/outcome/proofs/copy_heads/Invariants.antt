@@ -1,14 +1,7 @@
 -- Fixed signed numbers are copied out. Assumes nothing.
-use mathlib.Core.Path.{◌≡◌, sym, ◌∙◌, ap}
+use mathlib.Core.Path.{◌≡◌}
 use Prim.Native.Nat.{◌-◌, ◌≤◌}
-use native.Mathlib.Omega.{arith}
-use borrow.Author.Rules.{rules}
-use lib.IntN.{pos}
-use lib.ListN.{length, get_or, take, length-set}
-use lib.Seq.{take-length}
-use mir.Syntax.{w32}
-use Rattle.orders.proofs.Entries.{back}
-use Rattle.outcome.proofs.Copies.{copy_more}
+use lib.ListN.{length, take}
 use Rattle.outcome.proofs.copy_heads.Given as goal
 
 abbrev pub invariant-loop-i : goal.invariant-loop-i

@@ -1,11 +1,7 @@
 -- Fixed unsigned numbers are copied out. Assumes nothing.
-use mathlib.Core.Path.{◌≡◌, sym, ◌∙◌, ap}
+use mathlib.Core.Path.{◌≡◌}
 use Prim.Native.Nat.{◌-◌, ◌≤◌}
-use native.Mathlib.Omega.{arith}
-use borrow.Author.Rules.{rules}
-use lib.ListN.{length, take, length-set}
-use lib.Seq.{take-length}
-use Rattle.outcome.proofs.Copies.{copy_more}
+use lib.ListN.{length, take}
 use Rattle.outcome.proofs.copy_numbers.Given as goal
 
 abbrev pub invariant-loop-i : goal.invariant-loop-i

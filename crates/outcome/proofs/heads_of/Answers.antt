@@ -1,15 +1,12 @@
 -- The heads, read off the marks one column after the other. Assumes nothing.
-use Prim.Native.Nat.{◌-◌, ◌≤◌, ◌<◌}
+use Prim.Native.Nat.{◌<◌}
 use native.Mathlib.Omega.{arith}
-use borrow.Author.Rules.{rules, sfits_of}
-use lib.IntN.{pos}
+use borrow.Author.Rules.{sfits_of}
 use mir.Syntax.{w16, w32}
 use mir.Facts.{to_z-of_z}
 use Rattle.theory.specs.Lists.{nums}
-use Rattle.theory.specs.Table.{entry}
-use Rattle.theory.specs.Canon.{Head}
 use Rattle.theory.specs.Limits.{row_limit}
-use Rattle.orders.proofs.Sweeps.{Swept, swept_start, swept_set}
+use Rattle.orders.proofs.Sweeps.{swept_start, swept_set}
 use Rattle.outcome.proofs.Parts.{head_marked}
 use Rattle.outcome.proofs.heads_of.Goals as goal
 use Rattle.outcome.proofs.heads_of.Goals.{After-place-order}

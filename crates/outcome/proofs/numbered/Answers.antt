@@ -1,9 +1,7 @@
 -- The columns numbered from 1. Assumes nothing.
-use mathlib.Core.Path.{◌≡◌, refl}
-use Prim.Native.Nat.{◌+◌, ◌-◌, ◌≤◌}
+use mathlib.Core.Path.{refl}
 use native.Mathlib.Omega.{arith}
-use Rattle.theory.specs.Lists.{nums}
-use Rattle.orders.proofs.Sweeps.{Swept, swept_start, swept_set}
+use Rattle.orders.proofs.Sweeps.{swept_start, swept_set}
 use Rattle.outcome.proofs.numbered.Goals as goal
 
 pub loop-i-init : goal.loop-i-init

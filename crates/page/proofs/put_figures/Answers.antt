@@ -1,14 +1,9 @@
 -- Section after section, each in the room that those before it left. Assumes nothing.
-use borrow.Author.Rules.{rules}
 use native.Mathlib.Omega.{arith}
-use Prim.Native.Nat.{◌-◌}
 use mathlib.Core.List.{[]}
-use lib.ListN.{length}
 use mir.Facts.{to_z-of_z}
-use mir.Syntax.{w32}
-use mir.Val.{to_z}
-use Rattle.page.specs.Printed.{Section, figures, numbers, sections, section_text}
-use Rattle.page.proofs.Joining.{Joined, joined_none, joined_length, joined_at, next_room, next_end, joined_next, joined_all}
+use Rattle.page.specs.Printed.{Section, numbers, section_text}
+use Rattle.page.proofs.Joining.{joined_none, joined_length, joined_at, next_room, next_end, joined_next, joined_all}
 use Rattle.page.proofs.put_figures.Goals as goal
 
 -- past the last section

@@ -1,13 +1,10 @@
 -- Numbers line by line, each in the room that the lines before it left. Assumes nothing.
-use borrow.Author.Rules.{rules}
 use native.Mathlib.Omega.{arith}
-use Prim.Native.Nat.{ℕ, ◌-◌}
 use mathlib.Core.Path.{sym, ap}
-use mathlib.Core.List.{List}
 use lib.ListN.{length}
-use Rattle.sheet.specs.Text.{text, ended}
+use Rattle.sheet.specs.Text.{text}
 use Rattle.lettering.proofs.PutLaws.{puts_same}
-use Rattle.page.proofs.Joining.{Joined, lines_joined, joined_none, joined_length, joined_at, next_room, next_end, joined_next, joined_all}
+use Rattle.page.proofs.Joining.{lines_joined, joined_none, joined_length, joined_at, next_room, next_end, joined_next, joined_all}
 use Rattle.page.proofs.put_number_lines.Goals as goal
 use Rattle.page.proofs.put_number_lines.Invariants.{line}
 

@@ -1,5 +1,4 @@
 -- A refusal's one line, with the number of a wrong line and without. Assumes nothing.
-use borrow.Author.Rules.{rules}
 use native.Mathlib.Omega.{arith}
 use mathlib.Core.Path.{◌≡◌, ap, ◌∙◌}
 use mathlib.Core.List.{◌++◌}
@@ -10,24 +9,24 @@ use Rattle.lettering.proofs.PutLaws.{puts_same}
 use Rattle.page.specs.Printed.{printed}
 use Rattle.page.proofs.Refusing.{refused_head, line_head, refused_line, refused_other}
 use Rattle.page.proofs.put_refusal.Goals as goal
-use Rattle.page.proofs.put_refusal.Goals.{After-number-code, In-Line-2}
+use Rattle.page.proofs.put_refusal.Goals.{After-number-code, In-Line}
 
 -- the lines that are put are the printed refusals
-line_is : (c : In-Line-2) → ended (line_head ++ text c.in-Line.line) ≡ printed (refusal c.args.r)
+line_is : (c : In-Line) → ended (line_head ++ text c.in-Line.line) ≡ printed (refusal c.args.r)
 line_is c = refused_line c.args.r c.in-Line.line c.in-Line.is
 
 other_is : (c : After-number-code) → ended (refused_head ++ text c.number-code.result) ≡ printed (refusal c.args.r)
 other_is c =
-    ap (λ k. ended (refused_head ++ text k)) c.number-code.ensures ∙ refused_other c.args.r c.in_default.keys2
+    ap (λ k. ended (refused_head ++ text k)) c.number-code.ensures ∙ refused_other c.args.r (λ k e. c.in_default.not-Line k e)
 
 pub put_heading-requires : goal.put_heading-requires
 put_heading-requires c =
-    omega (arith, ap length (line_is (goal.at.put_heading-requires c).In-Line-2), c.requires)
+    omega (arith, ap length (line_is (goal.at.put_heading-requires c).In-Line), c.requires)
 
 pub returns-in-Line : goal.returns-in-Line
 returns-in-Line c =
     let s = c in
-    puts_same _ _ s.args.page.now _ c.put_heading.result (line_is (goal.at.returns-in-Line c).In-Line-2)
+    puts_same _ _ s.args.page.now _ c.put_heading.result (line_is (goal.at.returns-in-Line c).In-Line)
     c.put_heading.ensures
 
 pub put_heading-requires-2 : goal.put_heading-requires-2

@@ -1,5 +1,4 @@
 -- The section of each number, under its name. Assumes nothing.
-use borrow.Author.Rules.{rules}
 use native.Mathlib.Omega.{arith}
 use mathlib.Core.Path.{◌≡◌}
 use mir.Facts.{to_z-of_z}

@@ -1,11 +1,8 @@
 -- The rounds, at most n of them. Assumes nothing.
 use mathlib.Core.Logic.{inl, inr}
-use Prim.Native.Nat.{◌-◌, ◌≤◌}
 use native.Mathlib.Omega.{arith}
 use Rattle.theory.specs.Limits.{order_limit, addition_limit}
-use Rattle.theory.specs.Lists.{nums}
-use Rattle.theory.specs.Table.{entry}
-use Rattle.raising.proofs.Ends.{BeforeRound, starts, one_round, goes_on, before_ample, climbed}
+use Rattle.raising.proofs.Ends.{starts, one_round, goes_on, before_ample, climbed}
 use Rattle.raising.proofs.climb.Goals as goal
 
 pub loop-reached-init : goal.loop-reached-init

@@ -1,16 +1,11 @@
 -- One round, row by row. Assumes nothing.
 use mathlib.Core.Path.{◌≡◌}
-use mathlib.Core.Logic.{inl, inr}
-use Prim.Native.Nat.{◌-◌, ◌≤◌, ◌<◌}
+use Prim.Native.Nat.{◌<◌}
 use native.Mathlib.Omega.{arith}
 use borrow.Author.Rules.{rules}
 use Rattle.theory.specs.Limits.{order_limit}
-use Rattle.theory.specs.Lists.{nums}
-use Rattle.theory.specs.Table.{entry}
 use Rattle.orders.proofs.Places.{within}
 use Rattle.orders.proofs.Stores.{put_nums}
-use Rattle.orders.specs.Held.{Long}
-use Rattle.raising.specs.Rounds.{Round}
 use Rattle.raising.proofs.Steps.{round_none, round_under, round_raised, round_kept}
 use Rattle.raising.proofs.round.Goals as goal
 use Rattle.raising.proofs.round.Goals.{then-next-i, else-next-i}

@@ -1,12 +1,8 @@
 -- The bytes of a label are tested one after the other. Assumes nothing.
-use borrow.Author.Rules.{rules}
 use Rattle.orders.proofs.Entries.{tells_yes, tells_no}
 use native.Mathlib.Omega.{arith}
-use Prim.Native.Nat.{ℕ, ◌≤◌, ◌<◌, ◌-◌}
 use borrow.Author.Tests.{not-true, not-false}
 use borrow.Author.Count.{below_more}
-use lib.ListN.{length, get_or}
-use Rattle.sheet.specs.Labels.{LetterOrDigit}
 use Rattle.sheet.proofs.label_stands.Goals as goal
 
 pub returns-then-l-eq0 : goal.returns-then-l-eq0

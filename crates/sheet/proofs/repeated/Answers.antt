@@ -1,12 +1,10 @@
 -- Label k is compared with those before it. Assumes nothing.
-use borrow.Author.Rules.{rules}
 use Rattle.orders.proofs.Entries.{tells_yes, tells_no}
 use native.Mathlib.Omega.{arith}
-use Prim.Native.Nat.{ℕ, ◌+◌, ◌*◌, ◌≤◌, ◌<◌, ◌-◌}
-use mathlib.Core.Path.{◌≡◌, sym, ◌∙◌}
+use Prim.Native.Nat.{◌+◌, ◌*◌}
+use mathlib.Core.Path.{sym, ◌∙◌}
 use borrow.Author.Count.{below_more}
-use lib.ListN.{length}
-use Rattle.sheet.specs.Labels.{width, slot}
+use Rattle.sheet.specs.Labels.{width}
 use Rattle.sheet.proofs.Slots.{part_slot}
 use Rattle.sheet.proofs.repeated.Goals as goal
 

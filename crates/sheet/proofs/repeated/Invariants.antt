@@ -1,17 +1,12 @@
 -- Label k is compared with those before it. Assumes nothing.
-use borrow.Author.Rules.{rules}
-use Rattle.orders.proofs.Entries.{tells_yes, tells_no}
-use native.Mathlib.Omega.{arith}
 use Prim.Native.Nat.{ℕ, ◌+◌, ◌*◌, ◌≤◌, ◌<◌, ◌-◌}
-use mathlib.Core.Path.{◌≡◌, sym, ◌∙◌}
-use borrow.Author.Count.{below_more}
+use mathlib.Core.Path.{◌≡◌}
 use lib.ListN.{length}
 use Rattle.sheet.specs.Labels.{width, slot}
-use Rattle.sheet.proofs.Slots.{part_slot}
 use Rattle.sheet.proofs.repeated.Given as goal
 
 abbrev pub invariant-loop-i : goal.invariant-loop-i
-invariant-loop-i l =     (l.i ≤ l.k)
+invariant-loop-i l = (l.i ≤ l.k)
     × (l.at ≡ width * l.k)
     × (l.end ≡ l.at + width)
     × (width * l.k + width ≤ length l.labels)

@@ -1,9 +1,7 @@
 -- Two texts are compared byte by byte. Assumes nothing.
-use borrow.Author.Rules.{rules}
 use Rattle.orders.proofs.Entries.{tells_yes, tells_no}
 use native.Mathlib.Omega.{arith}
-use Prim.Native.Nat.{ℕ, ◌≤◌, ◌<◌, ◌-◌}
-use mathlib.Core.Path.{◌≡◌, ap}
+use mathlib.Core.Path.{ap}
 use borrow.Author.Count.{below_more}
 use lib.ListN.{length, get_or}
 use lib.Seq.{ext_get_or}

@@ -1,9 +1,7 @@
 -- The rows are starred one after the other. Assumes nothing.
-use Prim.Native.Nat.{◌-◌}
 use native.Mathlib.Omega.{arith}
 use borrow.Author.Rules.{rules}
-use Rattle.stars.specs.Shift.{mark_arrays}
-use Rattle.stars.proofs.Progress.{Progress, progress_start, progress_next, progress_end}
+use Rattle.stars.proofs.Progress.{progress_start, progress_next, progress_end}
 use Rattle.stars.proofs.first_stars.Goals as goal
 
 pub loop-i-init : goal.loop-i-init

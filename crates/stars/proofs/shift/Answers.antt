@@ -1,9 +1,7 @@
 -- Row i takes the first column that the rows before it leave to it, and the marks are shifted along the way. Assumes nothing.
 use native.Mathlib.Omega.{arith}
-use Rattle.theory.specs.Lists.{nums}
 use Rattle.theory.specs.Limits.{row_limit}
-use Rattle.stars.specs.Shift.{mark_arrays}
-use Rattle.stars.proofs.Moving.{ShiftingIn, unsearched, chosen_below, move_start, move_less, move_next, move_end}
+use Rattle.stars.proofs.Moving.{unsearched, chosen_below, move_start, move_less, move_next, move_end}
 use Prim.Native.Nat.{◌<◌}
 use Rattle.stars.proofs.shift.Goals as goal
 use Rattle.stars.proofs.shift.Goals.{After-least_column-j}

@@ -1,5 +1,4 @@
 -- A row is starred as it stands, or the marks are shifted. Assumes nothing.
-use borrow.Author.Rules.{rules}
 use Rattle.stars.proofs.Moving.{candidate, starred_so}
 use Rattle.stars.proofs.star_row.Goals as goal
 

@@ -1,10 +1,8 @@
 -- The columns of the rows found are scanned one after the other, until the row wanted is found or none is left. Assumes nothing.
 use mathlib.Core.Path.{refl}
-use Prim.Native.Nat.{◌-◌}
 use native.Mathlib.Omega.{arith}
 use borrow.Author.Tests.{eqb-false}
-use Rattle.ways.specs.Search.{ways}
-use Rattle.ways.proofs.Scanning.{SearchedTo, search_start, search_below, search_row, search_next, search_end}
+use Rattle.ways.proofs.Scanning.{search_start, search_below, search_row, search_next, search_end}
 use Rattle.ways.proofs.find_ways.Goals as goal
 
 pub rows_from-queue-requires : goal.rows_from-queue-requires

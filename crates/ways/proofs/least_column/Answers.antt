@@ -1,11 +1,6 @@
 -- The least column of a row that is a maximum and belongs to an eligible row: the columns are tried from the first. Assumes nothing.
-use mathlib.Core.Logic.{inl, inr}
-use Prim.Native.Nat.{ℕ, ◌-◌, ◌≤◌, ◌<◌}
 use native.Mathlib.Omega.{arith}
 use borrow.Author.Count.{below_more}
-use Rattle.theory.specs.Lists.{nums}
-use Rattle.theory.specs.Table.{entry}
-use Rattle.theory.specs.Canon.{Maximum}
 use Rattle.ways.proofs.least_column.Goals as goal
 use Rattle.ways.proofs.least_column.Goals.{then-tight+else-eligible-row-ne0, else-tight}
 

@@ -1,8 +1,8 @@
 -- The rows from i on are put in one after the other. Assumes nothing.
 use mathlib.Core.Path.{◌≡◌, refl}
-use Prim.Native.Nat.{◌+◌, ◌-◌}
+use Prim.Native.Nat.{◌+◌}
 use native.Mathlib.Omega.{arith}
-use Rattle.orders.proofs.Sweeps.{Swept, swept_start, swept_set}
+use Rattle.orders.proofs.Sweeps.{swept_start, swept_set}
 use Rattle.ways.proofs.rows_from.Goals as goal
 
 pub loop-p-init : goal.loop-p-init

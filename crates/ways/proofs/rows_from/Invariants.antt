@@ -1,8 +1,7 @@
 -- The rows from i on are put in one after the other. Assumes nothing.
-use mathlib.Core.Path.{◌≡◌, refl}
+use mathlib.Core.Path.{◌≡◌}
 use Prim.Native.Nat.{◌+◌, ◌-◌}
-use native.Mathlib.Omega.{arith}
-use Rattle.orders.proofs.Sweeps.{Swept, swept_start, swept_set}
+use Rattle.orders.proofs.Sweeps.{Swept}
 use Rattle.ways.proofs.rows_from.Given as goal
 
 abbrev pub invariant-loop-p : goal.invariant-loop-p

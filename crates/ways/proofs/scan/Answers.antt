@@ -1,9 +1,7 @@
 -- The rows that are not found are tried in the column of row m, one after the other. Assumes nothing.
-use mathlib.Core.Logic.{inl, inr}
-use Prim.Native.Nat.{◌+◌, ◌-◌, ◌<◌}
+use Prim.Native.Nat.{◌+◌, ◌<◌}
 use native.Mathlib.Omega.{arith}
-use Rattle.ways.specs.Search.{ways}
-use Rattle.ways.proofs.Scanning.{ScannedTo, scan_start, scan_row, scan_next, scan_join, scan_end}
+use Rattle.ways.proofs.Scanning.{scan_start, scan_row, scan_next, scan_join, scan_end}
 use Rattle.ways.proofs.scan.Goals as goal
 use Rattle.ways.proofs.scan.Goals.{In-loop-place, then-tight, else-tight}
 

@@ -449,8 +449,13 @@ fn run(rt: &impl Print, text: &[u8]) -> io::Result<()> {
     Ok(())
 }
 
+// Room for the text.
+fn room() -> [u8; TEXT] {
+    [0u8; TEXT]
+}
+
 fn main(rt: HostRuntime) -> io::Result<()> {
-    let mut text = [0u8; TEXT];
+    let mut text = room();
     let reading = read_input(&mut rt.stdin(), &mut text);
     let Reading::Bytes(n) = reading else {
         return Err(io::Error::other("standard input cannot be read"));

@@ -7,9 +7,8 @@ use orders::Refusal;
 use reader::Read;
 use std::env::FillError;
 use std::fs::File;
-use std::io;
 use std::rt::{Env, Files};
-use std::str;
+use std::{io, str};
 use streams::{Reading, read_input};
 use writer::Written;
 
@@ -87,12 +86,15 @@ fn print(rt: &impl Print, word: &[u8], v: u64) -> io::Result<()> {
 }
 
 fn print_refusal(rt: &impl Print, r: Refusal) -> io::Result<()> {
-    let (word, line) = match r {
-        Refusal::Line(k) => (" ", k as u64),
-        _ => (" line ", 0),
+    let line = match r {
+        Refusal::Line(k) => Some(k as u64),
+        _ => None,
     };
     print(rt, b" refused ", long(orders::number(r)))?;
-    print(rt, word.as_bytes(), line)
+    match line {
+        Some(k) => print(rt, b" ", k),
+        None => print(rt, b" line ", 0),
+    }
 }
 
 // The two bytes from a place on, or 0.

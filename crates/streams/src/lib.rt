@@ -33,3 +33,62 @@ pub fn read_input<R: Read>(reader: &mut R, buffer: &mut [u8]) -> Reading
 pub fn tell<W: Write>(writer: &mut W, line: &[u8]) {
     let _ = writer.write_all(line);
 }
+
+#[cfg(test)]
+mod tests {
+    use super::*;
+    use std::io;
+
+    // An input that gives a byte at each read, and fails once so many were given.
+    #[derive(Drop)]
+    struct Broken {
+        left: u8,
+    }
+
+    impl Read for Broken {
+        fn read(&mut self, buf: &mut [u8]) -> io::Result<usize> {
+            if self.left == 0 {
+                return Err(io::Error::other("broken"));
+            }
+            if buf.is_empty() {
+                return Ok(0);
+            }
+            buf[0] = b'a' + self.left % 16;
+            self.left -= 1;
+            Ok(1)
+        }
+    }
+
+    fn count(reading: Reading) -> Option<usize> {
+        match reading {
+            Reading::Bytes(n) => Some(n),
+            Reading::Failed => None,
+        }
+    }
+
+    #[test]
+    fn reads_to_the_end_or_to_the_buffers(rt: HostRuntime) {
+        for (input, want) in [("", 0), ("abc", 3), ("abcd", 4), ("abcde", 4)] {
+            let mut buffer = [0u8; 4];
+            let mut reader = input.as_bytes();
+            assert_eq!(rt;
+                count(read_input(&mut reader, &mut buffer)),
+                Some(want),
+                "of {input}"
+            );
+        }
+    }
+
+    #[test]
+    fn a_failed_read_is_no_end(rt: HostRuntime) {
+        for (left, want) in [(0, None), (3, None), (4, Some(4)), (5, Some(4))] {
+            let mut buffer = [0u8; 4];
+            let mut reader = Broken { left };
+            assert_eq!(rt;
+                count(read_input(&mut reader, &mut buffer)),
+                want,
+                "of {left}"
+            );
+        }
+    }
+}

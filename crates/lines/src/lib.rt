@@ -27,7 +27,7 @@ enum Place {
 }
 
 // The sections of a sheet, in their order.
-#[derive(Drop)]
+#[derive(Clone, Copy)]
 pub enum Section {
     Rows,
     Cols,

@@ -7,8 +7,6 @@ use mathlib.Core.List.{List, [], ◌∷◌}
 use Prim.Native.Nat.{ℕ, ◌≤◌}
 use native.Mathlib.Decide.{ℕ_discrete}
 use native.Mathlib.Omega.{arith}
-use denote.Enum.Declared.{tag_of}
-use types.Run.{OneOf, miss}
 use lib.Dec.{eqb}
 use lib.ListN.{get_or}
 use Rattle.orders.specs.Refusals.{number_of, values_of, Said, gives, refuses, refusal}
@@ -16,7 +14,6 @@ use Rattle.orders.specs.Refusals.{Test, First, Clear, Applies, numbers, Rising, 
 use Rattle.orders.specs.declared.Refusal.{Refusal}
 use Rattle.orders.specs.declared.Refusal.TheVariants.{Size, Length, Entry, Addition, StarList, NoTransversal, NoCanon}
 use Rattle.orders.specs.declared.Refusal.TheVariants.{NotGreatest, TooLong, Line, Label, Room}
-use Rattle.orders.specs.contracts.Refusal.{the_type}
 
 pub first_once : (ts : List Test) (j k : ℕ) → First ts j → First ts k → j ≡ k
 first_once [] j k p q = absurd p
@@ -72,24 +69,20 @@ right_lengths (s ∷ ss) f = (
 pub refused_once : {X : Type 0} (ts : List Test) {j k : ℕ} {a b : Said X} → First ts j → a ≡ refuses j [] → First ts k → b ≡ refuses k [] → a ≡ b
 refused_once ts {j} {k} p e q f = e ∙ ap (λ (i : ℕ). refuses i []) (first_once ts j k p q) ∙ sym f
 
--- the cases of a refusal that hold no line, by their places in the type
-abbrev pub others : List ℕ
-others = 0 ∷ 1 ∷ 2 ∷ 3 ∷ 4 ∷ 5 ∷ 6 ∷ 7 ∷ 8 ∷ 10 ∷ 11 ∷ []
-
--- they have no value beside their number
-pub values_none : (r : Refusal) → OneOf others (tag_of the_type r) → values_of r ≡ []
-values_none Size o = refl
-values_none Length o = refl
-values_none Entry o = refl
-values_none Addition o = refl
-values_none StarList o = refl
-values_none NoTransversal o = refl
-values_none NoCanon o = refl
-values_none NotGreatest o = refl
-values_none TooLong o = refl
-values_none (Line k) o = absurd (miss others 9 tt o)
-values_none Label o = refl
-values_none Room o = refl
+-- the refusals that hold no line have no value beside their number
+pub values_none : (r : Refusal) → ((k : ℕ) → r ≡ Line k → ⊥) → values_of r ≡ []
+values_none Size f = refl
+values_none Length f = refl
+values_none Entry f = refl
+values_none Addition f = refl
+values_none StarList f = refl
+values_none NoTransversal f = refl
+values_none NoCanon f = refl
+values_none NotGreatest f = refl
+values_none TooLong f = refl
+values_none (Line k) f = absurd (f k refl)
+values_none Label f = refl
+values_none Room f = refl
 
 -- the refusal with a number and values
 refusal_of : ℕ → List ℕ → Refusal

@@ -2,13 +2,10 @@
 use mathlib.Core.Path.{◌≡◌, refl, sym, ap, ◌∙◌}
 use mathlib.Core.List.{List, [], ◌∷◌, ◌++◌, append-nil}
 use Prim.Native.Nat.{ℕ}
-use types.Run.{OneOf}
-use denote.Enum.Declared.{tag_of}
 use Rattle.orders.specs.declared.Refusal.{Refusal}
 use Rattle.orders.specs.declared.Refusal.TheVariants.{Line}
 use Rattle.orders.specs.Refusals.{number_of, refusal}
-use Rattle.orders.specs.contracts.Refusal.{the_type}
-use Rattle.orders.proofs.Refusals.{others, values_none}
+use Rattle.orders.proofs.Refusals.{values_none}
 use Rattle.sheet.specs.Text.{ascii, text, digits, ended}
 use Rattle.page.specs.Printed.{spaced, printed}
 
@@ -29,7 +26,7 @@ refused_line r k e =
     (ap (λ x. ended (line_head ++ x)) (sym (append-nil (text k)))
     ∙ ap (λ x. ended (refused_head ++ (x ++ spaced (k ∷ [])))) (sym ten_is))
 
-pub refused_other : (r : Refusal) → OneOf others (tag_of the_type r) → ended (refused_head ++ text (number_of r)) ≡ printed (refusal r)
+pub refused_other : (r : Refusal) → ((k : ℕ) → r ≡ Line k → ⊥) → ended (refused_head ++ text (number_of r)) ≡ printed (refusal r)
 refused_other r o =
     ap (λ x. ended (refused_head ++ x)) (sym (append-nil (text (number_of r))))
     ∙ ap (λ x. ended (refused_head ++ (text (number_of r) ++ spaced x))) (sym (values_none r o))

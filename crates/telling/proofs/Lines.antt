@@ -2,13 +2,10 @@
 use mathlib.Core.Path.{◌≡◌, ap, ◌∙◌}
 use mathlib.Core.List.{List, [], ◌∷◌}
 use Prim.Native.Nat.{ℕ}
-use denote.Enum.Declared.{tag_of}
-use types.Run.{OneOf}
 use Rattle.orders.specs.Refusals.{refuses, refusal, number_of}
 use Rattle.orders.specs.declared.Refusal.{Refusal}
 use Rattle.orders.specs.declared.Refusal.TheVariants.{Line}
-use Rattle.orders.specs.contracts.Refusal.{the_type}
-use Rattle.orders.proofs.Refusals.{others, values_none}
+use Rattle.orders.proofs.Refusals.{values_none}
 use Rattle.reader.specs.Promise.{says}
 use Rattle.reader.specs.declared.Read.{Read}
 use Rattle.reader.specs.declared.Read.TheVariants.{Refused}
@@ -18,5 +15,5 @@ pub line_said : {a : Read} {e : Refusal} {k : ℕ} → a ≡ Refused e → e ≡
 line_said p q = ap says p ∙ ap refusal q
 
 -- every other refusal, which the last arm of a match leaves, is its number alone
-pub other_said : {a : Read} {e : Refusal} → a ≡ Refused e → OneOf others (tag_of the_type e) → says a ≡ refuses (number_of e) []
+pub other_said : {a : Read} {e : Refusal} → a ≡ Refused e → ((k : ℕ) → e ≡ Line k → ⊥) → says a ≡ refuses (number_of e) []
 other_said {a} {e} p h = ap says p ∙ ap (λ (v : List ℕ). refuses (number_of e) v) (values_none e h)

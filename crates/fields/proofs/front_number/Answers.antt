@@ -11,7 +11,7 @@ use Rattle.sheet.specs.Text.{Digit}
 use Rattle.fields.proofs.Answers.{front_found, front_none}
 use Rattle.fields.proofs.NumberLaws.{SoFar, none, one_more, ends_here, leading_zero, above_limit, no_digit, stops_end, stops_byte}
 use Rattle.fields.proofs.front_number.Goals as goal
-use Rattle.fields.proofs.front_number.Goals.{Else-not-is_digit, Joined-i-eq1}
+use Rattle.fields.proofs.front_number.Goals.{then-i-eq1+else-value-eq0, else-i-eq1, Else-not-is_digit, Joined-i-eq1}
 
 pub loop-i-init : goal.loop-i-init
 loop-i-init c = (none refl refl, omega arith, omega arith)
@@ -30,12 +30,12 @@ digit : (c : Else-not-is_digit) → Digit (get_or (bytes c) (at c) 0)
 digit c = c.is_digit.ensures.holds (not-false _ c.if-not-is_digit.false-raw)
 
 -- with it the number goes on, where it does not stand behind a leading zero
-more : (c : Joined-i-eq1)
-    → SoFar (bytes (goal.at.Joined-i-eq1 c).Else-not-is_digit) (at (goal.at.Joined-i-eq1 c).Else-not-is_digit + 1) (so_far (goal.at.Joined-i-eq1 c).Else-not-is_digit * 10 + (get_or (bytes (goal.at.Joined-i-eq1 c).Else-not-is_digit) (at (goal.at.Joined-i-eq1 c).Else-not-is_digit) 0 - 48))
+more : (c : Joined-i-eq1) → let d = (goal.at.Joined-i-eq1 c).Else-not-is_digit in
+    SoFar (bytes d) (at d + 1) (so_far d * 10 + (get_or (bytes d) (at d) 0 - 48))
 more c =
-    let d = c in
-    one_more (bytes (goal.at.Joined-i-eq1 d).Else-not-is_digit) (at (goal.at.Joined-i-eq1 d).Else-not-is_digit) (so_far (goal.at.Joined-i-eq1 d).Else-not-is_digit) d.loop-i.invariant.0 (omega arith) (digit (goal.at.Joined-i-eq1 d).Else-not-is_digit)
-    (λ o z. ⊎_elim (λ w. w.1.left z) (λ w. w.left o) c.if-i-eq1.branch)
+    let d = (goal.at.Joined-i-eq1 c).Else-not-is_digit in
+    one_more (bytes d) (at d) (so_far d) d.loop-i.invariant.0 (omega arith) (digit d)
+    (λ o z. elim c.if-i-eq1.branch [ then-i-eq1+else-value-eq0 w ↦ w.if-value-eq0.false z | else-i-eq1 w ↦ w.if-i-eq1.false o ])
 
 pub returns-then-i-eq0 : goal.returns-then-i-eq0
 returns-then-i-eq0 c =

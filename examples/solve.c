@@ -1,5 +1,5 @@
 /* The rod pendulum, solved through include/canon.h, and the ties that a drawing screen would mark:
- *   cc -Iinclude examples/solve.c target/staticlib/libexports.a -o solve && ./solve */
+ *   cc -Iinclude examples/solve.c crates/exports/out/libexports.a -o solve && ./solve */
 #include "canon.h"
 
 #include <stdio.h>

@@ -1,7 +1,7 @@
 """The rod pendulum, solved from Python, and the ties that a drawing screen would mark: python3 examples/solve.py LIBRARY
 
 LIBRARY is a shared object made from the archive:
-  cc -shared -o libcanon.so -Wl,--whole-archive target/staticlib/libexports.a -Wl,--no-whole-archive
+  cc -shared -o libcanon.so -Wl,--whole-archive crates/exports/out/libexports.a -Wl,--no-whole-archive
 """
 import ctypes
 import sys

@@ -1,5 +1,5 @@
 //! The rod pendulum, solved from Rust, and the ties that a drawing screen would mark; libcanon.a is a copy of
-//! target/staticlib/libexports.a:
+//! crates/exports/out/libexports.a:
 //!   rustc -O examples/solve.rs -L FOLDER -l static=canon && ./solve
 
 extern "C" {

@@ -1,9 +1,10 @@
 /*
  * canon.h: Jacobi's simplest canon of a square table of orders, for C and C++.
  *
- * The calls are those of the proved library; link them from the archive that `rt staticlib exports` writes
- * (target/staticlib/libexports.a, x86-64 Linux). They keep no state, allocate nothing, call nothing outside the
- * archive but memcpy and memset, and may be used from several threads at once.
+ * The calls are those of the proved library; link them from the archive that `rt lib` makes in crates/exports
+ * (crates/exports/out/libexports.a, for x86-64 Linux and processors of level x86-64-v2, as made since about 2009). They
+ * keep no state, allocate nothing, call nothing outside the archive but memcpy and memset, and may be used from several
+ * threads at once.
  *
  * THE TABLE. Rows are equations and columns unknowns, both numbered from 1. A table of N rows is N * N numbers, row by
  * row. CANON_ABSENT says that the unknown does not occur in the equation; every other number is an order.

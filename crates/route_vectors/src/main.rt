@@ -454,6 +454,7 @@ fn room() -> [u8; TEXT] {
     [0u8; TEXT]
 }
 
+// A read or a write that fails ends the run with its error.
 fn main(rt: HostRuntime) -> io::Result<()> {
     let mut text = room();
     let reading = read_input(&mut rt.stdin(), &mut text);

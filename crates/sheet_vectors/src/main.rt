@@ -197,7 +197,8 @@ fn run(rt: &(impl Files + Print + Eprint), path: &str) -> io::Result<()> {
     rt.write_all(b"\n")
 }
 
-// Runs the call that the file named by argument i holds, and says whether there is such an argument.
+// Runs the call that the file named by an argument holds, and says whether there is such an argument. A name that is no text or longer
+// than the room is told in a line on standard error.
 fn one(rt: &(impl Env + Files + Print + Eprint), i: usize) -> io::Result<bool> {
     let mut path = [0u8; 64];
     match rt.arg(i, &mut path) {
@@ -211,6 +212,7 @@ fn one(rt: &(impl Env + Files + Print + Eprint), i: usize) -> io::Result<bool> {
     Ok(true)
 }
 
+// A write that fails ends the run with its error.
 fn main(rt: HostRuntime) -> io::Result<()> {
     for i in 1..usize::MAX {
         if !one(&rt, i)? {

@@ -39,7 +39,7 @@ mod tests {
     use super::*;
     use std::io;
 
-    // An input that gives a byte at each read, and fails once so many were given.
+    // An input that gives a byte at each read, and fails where none is left.
     #[derive(Drop)]
     struct Broken {
         left: u8,
@@ -53,7 +53,7 @@ mod tests {
             if buf.is_empty() {
                 return Ok(0);
             }
-            buf[0] = b'a' + self.left % 16;
+            buf[0] = self.left;
             self.left -= 1;
             Ok(1)
         }
@@ -67,7 +67,7 @@ mod tests {
     }
 
     #[test]
-    fn reads_to_the_end_or_to_the_buffers(rt: HostRuntime) {
+    fn reads_to_the_end_or_until_full(rt: HostRuntime) {
         for (input, want) in [("", 0), ("abc", 3), ("abcd", 4), ("abcde", 4)] {
             let mut buffer = [0u8; 4];
             let mut reader = input.as_bytes();

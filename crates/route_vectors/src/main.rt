@@ -9,6 +9,8 @@ ghost use Rattle.std.specs.Prelude.{◌≤◌, ◌≡◌, length};
 
 use canon::{Answer, Filled, Verdict, column_heads, from_canon, from_stars, is_simplest, solve};
 use orders::ABSENT;
+use std::io;
+use streams::{Reading, read_input};
 
 // Room for the table and for each list: a row and a column more than the limit and one.
 const PLACES: usize = 1156;
@@ -112,16 +114,16 @@ fn line_end(text: &[u8], from: usize) -> usize {
 }
 
 // Prints the line that starts at a place of the text, and says where the next one starts.
-fn echoed(text: &[u8], from: usize) -> usize {
+fn echoed(rt: &impl Print, text: &[u8], from: usize) -> io::Result<usize> {
     let end = line_end(text, from);
     if from <= end {
         if end < text.len() {
-            io::write_all(1, &text[from..end]);
-            io::write_all(1, b"\n");
-            return end + 1;
+            rt.write_all(&text[from..end])?;
+            rt.write_all(b"\n")?;
+            return Ok(end + 1);
         }
     }
-    end
+    Ok(end)
 }
 
 // A length, which no list has above its room.
@@ -235,9 +237,9 @@ fn read_heads(text: &[u8], from: usize) -> Heads
     }
 }
 
-fn print_unsigned(value: u32) {
-    io::write_all(1, b" ");
-    io::print_decimal(1, value as u64);
+fn print_unsigned(rt: &impl Print, value: u32) -> io::Result<()> {
+    rt.write_all(b" ")?;
+    rt.print(value)
 }
 
 // A number without its sign.
@@ -251,91 +253,89 @@ fn magnitude(value: i32) -> u64 {
     value as u64
 }
 
-fn print_signed(value: i32) {
-    io::write_all(1, b" ");
+fn print_signed(rt: &impl Print, value: i32) -> io::Result<()> {
+    rt.write_all(b" ")?;
     if value < 0 {
-        io::write_all(1, b"-");
+        rt.write_all(b"-")?;
     }
-    io::print_decimal(1, magnitude(value));
+    rt.print(magnitude(value))
 }
 
-fn print_list(list: &[u32]) {
+fn print_list(rt: &impl Print, list: &[u32]) -> io::Result<()> {
     let mut k = 0;
     while k < list.len() {
-        print_unsigned(list[k]);
+        print_unsigned(rt, list[k])?;
         k += 1;
     }
+    Ok(())
 }
 
-fn print_heads(list: &[i32]) {
+fn print_heads(rt: &impl Print, list: &[i32]) -> io::Result<()> {
     let mut k = 0;
     while k < list.len() {
-        print_signed(list[k]);
+        print_signed(rt, list[k])?;
         k += 1;
     }
+    Ok(())
 }
 
-fn print_answer(answer: Answer) {
+fn print_answer(rt: &impl Print, answer: Answer) -> io::Result<()> {
     match answer {
         Answer::Sum(sum) => {
-            io::write_all(1, b"sum");
-            print_signed(sum);
+            rt.write_all(b"sum")?;
+            print_signed(rt, sum)
         }
         Answer::Refused(refusal) => {
-            io::write_all(1, b"refused");
-            print_unsigned(orders::number(refusal));
+            rt.write_all(b"refused")?;
+            print_unsigned(rt, orders::number(refusal))
         }
     }
 }
 
-fn print_verdict(verdict: Verdict) {
+fn print_verdict(rt: &impl Print, verdict: Verdict) -> io::Result<()> {
     match verdict {
-        Verdict::Yes => {
-            io::write_all(1, b"yes");
-        }
-        Verdict::No => {
-            io::write_all(1, b"no");
-        }
+        Verdict::Yes => rt.write_all(b"yes"),
+        Verdict::No => rt.write_all(b"no"),
         Verdict::Refused(refusal) => {
-            io::write_all(1, b"refused");
-            print_unsigned(orders::number(refusal));
+            rt.write_all(b"refused")?;
+            print_unsigned(rt, orders::number(refusal))
         }
     }
 }
 
-fn print_filled(filled: Filled) {
+fn print_filled(rt: &impl Print, filled: Filled) -> io::Result<()> {
     match filled {
-        Filled::Done => {
-            io::write_all(1, b"done");
-        }
+        Filled::Done => rt.write_all(b"done"),
         Filled::Refused(refusal) => {
-            io::write_all(1, b"refused");
-            print_unsigned(orders::number(refusal));
+            rt.write_all(b"refused")?;
+            print_unsigned(rt, orders::number(refusal))
         }
     }
 }
 
 // Makes the call for the heads of columns, and prints its answer and what the lent slices then hold.
 fn print_columns(
+    rt: &impl Print,
     n: usize,
     table: &[i16],
     given: &[u32],
     heads: &mut [i32],
     rows: &mut [u32],
     counts: &mut [u32],
-) {
-    print_filled(column_heads(n, table, given, heads, rows, counts));
-    io::write_all(1, b", heads");
-    print_heads(heads);
-    io::write_all(1, b", rows");
-    print_list(rows);
-    io::write_all(1, b", counts");
-    print_list(counts);
-    io::write_all(1, b"\n");
+) -> io::Result<()> {
+    print_filled(rt, column_heads(n, table, given, heads, rows, counts))?;
+    rt.write_all(b", heads")?;
+    print_heads(rt, heads)?;
+    rt.write_all(b", rows")?;
+    print_list(rt, rows)?;
+    rt.write_all(b", counts")?;
+    print_list(rt, counts)?;
+    rt.write_all(b"\n")
 }
 
 // Makes the call and prints its answer.
 fn print_call(
+    rt: &impl Print,
     call: u64,
     n: usize,
     table: &[i16],
@@ -343,18 +343,19 @@ fn print_call(
     adds: &mut [u32],
     stars: &mut [u32],
     heads: &mut [i32],
-) {
+) -> io::Result<()> {
     match call {
-        1 => print_answer(solve(n, table, adds, stars, heads)),
-        2 => print_answer(from_canon(n, table, given, adds, stars, heads)),
-        3 => print_answer(from_stars(n, table, given, adds, stars, heads)),
-        _ => print_verdict(is_simplest(n, table, given)),
+        1 => print_answer(rt, solve(n, table, adds, stars, heads)),
+        2 => print_answer(rt, from_canon(n, table, given, adds, stars, heads)),
+        3 => print_answer(rt, from_stars(n, table, given, adds, stars, heads)),
+        _ => print_verdict(rt, is_simplest(n, table, given)),
     }
 }
 
 // Makes the call, and prints its answer and what the lent slices then hold. For the heads of columns the lent additions are the rows,
 // the stars the counts.
 fn print_outcome(
+    rt: &impl Print,
     call: u64,
     n: usize,
     table: &[i16],
@@ -362,23 +363,31 @@ fn print_outcome(
     adds: &mut [u32],
     stars: &mut [u32],
     heads: &mut [i32],
-) {
+) -> io::Result<()> {
     if call == 5 {
-        print_columns(n, table, given, heads, adds, stars);
-        return;
+        return print_columns(rt, n, table, given, heads, adds, stars);
     }
-    print_call(call, n, table, given, adds, stars, heads);
-    io::write_all(1, b", adds");
-    print_list(adds);
-    io::write_all(1, b", stars");
-    print_list(stars);
-    io::write_all(1, b", heads");
-    print_heads(heads);
-    io::write_all(1, b"\n");
+    print_call(rt, call, n, table, given, adds, stars, heads)?;
+    rt.write_all(b", adds")?;
+    print_list(rt, adds)?;
+    rt.write_all(b", stars")?;
+    print_list(rt, stars)?;
+    rt.write_all(b", heads")?;
+    print_heads(rt, heads)?;
+    rt.write_all(b"\n")
 }
 
 // Lends each list as a slice of its array.
-fn lend(call: u64, n: usize, table: Table, given: List, adds: List, stars: List, heads: Heads)
+fn lend(
+    rt: &impl Print,
+    call: u64,
+    n: usize,
+    table: Table,
+    given: List,
+    adds: List,
+    stars: List,
+    heads: Heads,
+) -> io::Result<()>
     requires { (table.count ≤ length table.values) × (given.count ≤ length given.values) × (adds.count ≤ length adds.values)
         × (stars.count ≤ length stars.values) × (heads.count ≤ length heads.values) }
 {
@@ -393,6 +402,7 @@ fn lend(call: u64, n: usize, table: Table, given: List, adds: List, stars: List,
     let mut headed = heads.values;
     let headed_count = heads.count;
     print_outcome(
+        rt,
         call,
         n,
         &entries[..entries_count],
@@ -400,12 +410,12 @@ fn lend(call: u64, n: usize, table: Table, given: List, adds: List, stars: List,
         &mut added[..added_count],
         &mut starred[..starred_count],
         &mut headed[..headed_count],
-    );
+    )
 }
 
 // Runs the vector that starts at a place of the text, and says where the next one starts.
-fn vector(text: &[u8], from: usize) -> usize {
-    let title = echoed(text, from);
+fn vector(rt: &impl Print, text: &[u8], from: usize) -> io::Result<usize> {
+    let title = echoed(rt, text, from)?;
     let call = number_at(text, title);
     let rows = number_at(text, call.next);
     let table = read_table(text, rows.next);
@@ -413,7 +423,9 @@ fn vector(text: &[u8], from: usize) -> usize {
     let adds = read_list(text, given.next);
     let stars = read_list(text, adds.next);
     let heads = read_heads(text, stars.next);
+    let next = heads.next;
     lend(
+        rt,
         call.size,
         rows.size as usize,
         table,
@@ -421,23 +433,33 @@ fn vector(text: &[u8], from: usize) -> usize {
         adds,
         stars,
         heads,
-    );
-    heads.next
+    )?;
+    Ok(next)
 }
 
-fn run(text: &[u8]) {
+fn run(rt: &impl Print, text: &[u8]) -> io::Result<()> {
     let vectors = number_at(text, 0);
     let count = vectors.size;
     let mut next = vectors.next;
     let mut k: u64 = 0;
     while k < count {
-        next = vector(text, next);
+        next = vector(rt, text, next)?;
         k += 1;
     }
+    Ok(())
 }
 
-fn main() {
-    let mut text = [0u8; TEXT];
-    let n = io::read_full(0, &mut text);
-    run(&text[..n]);
+// Room for the text.
+fn room() -> [u8; TEXT] {
+    [0u8; TEXT]
+}
+
+// A read or a write that fails ends the run with its error.
+fn main(rt: HostRuntime) -> io::Result<()> {
+    let mut text = room();
+    let reading = read_input(&mut rt.stdin(), &mut text);
+    let Reading::Bytes(n) = reading else {
+        return Err(io::Error::other("standard input cannot be read"));
+    };
+    run(&rt, &text[..n])
 }

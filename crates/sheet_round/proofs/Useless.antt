@@ -23,7 +23,6 @@ use Rattle.reader.specs.Promise as reading
 use Rattle.reader.specs.Promise.{Lent, lent, written, ReadPromise, read}
 use Rattle.reader.proofs.PromiseLaws.{all_clear as read-clear}
 use Rattle.reader.proofs.Unique as reader
-use Rattle.writer.specs.Promise as writing
 use Rattle.writer.specs.Promise.{Model, model, Labelling, WritePromise, wrote}
 use Rattle.writer.proofs.Refusing.{all_clear as write-clear}
 use Rattle.writer.proofs.Unique as writer

@@ -5,6 +5,11 @@
 
 use orders::Refusal;
 use reader::Read;
+use std::env::FillError;
+use std::fs::File;
+use std::rt::{Env, Files};
+use std::{io, str};
+use streams::{Reading, read_input};
 use writer::Written;
 
 // One number more in a mix.
@@ -75,16 +80,20 @@ fn long(x: u32) -> u64 {
     x as u64
 }
 
-fn print(word: &[u8], v: u64) {
-    io::write_all(1, word);
-    io::print_decimal(1, v);
+fn print(rt: &impl Print, word: &[u8], v: u64) -> io::Result<()> {
+    rt.write_all(word)?;
+    rt.print(v)
 }
 
-fn print_refusal(r: Refusal) {
-    print(b" refused ", long(orders::number(r)));
-    match r {
-        Refusal::Line(k) => print(b" ", k as u64),
-        _ => print(b" line ", 0),
+fn print_refusal(rt: &impl Print, r: Refusal) -> io::Result<()> {
+    let line = match r {
+        Refusal::Line(k) => Some(k as u64),
+        _ => None,
+    };
+    print(rt, b" refused ", long(orders::number(r)))?;
+    match line {
+        Some(k) => print(rt, b" ", k),
+        None => print(rt, b" line ", 0),
     }
 }
 
@@ -123,27 +132,27 @@ fn entries(s: &[u8], at: usize, count: usize) -> [i16; 1100] {
     t
 }
 
-fn read_call(s: &[u8]) {
+fn read_call(rt: &impl Print, s: &[u8]) -> io::Result<()> {
     let t = pair(s, 1) % 1101;
     let r = pair(s, 3) % 301;
     let c = pair(s, 5) % 301;
     if s.len() < 7 {
-        return;
+        return Ok(());
     }
     let mut table = table_room();
     let mut rows = label_room();
     let mut cols = label_room();
     let answer = reader::read_sheet(&s[7..], &mut table[..t], &mut rows[..r], &mut cols[..c]);
     match answer {
-        Read::Rows(n) => print(b" rows ", n as u64),
-        Read::Refused(k) => print_refusal(k),
+        Read::Rows(n) => print(rt, b" rows ", n as u64)?,
+        Read::Refused(k) => print_refusal(rt, k)?,
     }
-    print(b" table ", long(mix_table(&table)));
-    print(b" rows ", long(mix_labels(&rows)));
-    print(b" cols ", long(mix_labels(&cols)));
+    print(rt, b" table ", long(mix_table(&table)))?;
+    print(rt, b" rows ", long(mix_labels(&rows)))?;
+    print(rt, b" cols ", long(mix_labels(&cols)))
 }
 
-fn write_call(s: &[u8]) {
+fn write_call(rt: &impl Print, s: &[u8]) -> io::Result<()> {
     let n = pair(s, 1);
     let t = pair(s, 3) % 1101;
     let r = pair(s, 5) % 301;
@@ -153,46 +162,62 @@ fn write_call(s: &[u8]) {
     let b = a + r;
     let e = b + c;
     if s.len() < e {
-        return;
+        return Ok(());
     }
     let table = entries(s, 11, t);
     let mut out = sheet_room();
     let answer = writer::write_sheet(n, &table[..t], &s[a..b], &s[b..e], &mut out[..o]);
     match answer {
-        Written::Bytes(k) => print(b" bytes ", k as u64),
-        Written::Refused(k) => print_refusal(k),
+        Written::Bytes(k) => print(rt, b" bytes ", k as u64)?,
+        Written::Refused(k) => print_refusal(rt, k)?,
     }
-    print(b" room ", long(mix_room(&out)));
+    print(rt, b" room ", long(mix_room(&out)))
 }
 
-fn one(i: usize) {
-    let mut path = [0u8; 64];
-    let k = os::arg(i, &mut path);
-    let fd = os::open_read(&path[..k]);
-    if fd < 0 {
-        os::fail(&path[..k]);
-        return;
-    }
+// Runs the call that a file holds. One that cannot be opened or read is told in a line on standard error.
+fn run(rt: &(impl Files + Print + Eprint), path: &str) -> io::Result<()> {
+    let mut file = match File::open(rt, path) {
+        Ok(file) => file,
+        Err(e) => return rt.eprintln(format_args!("{path}: {e}")),
+    };
     let mut buf = [0u8; 12400];
-    let n = io::read_full(fd, &mut buf);
-    libc::close(fd);
-    io::write_all(1, &path[..k]);
+    let reading = read_input(&mut file, &mut buf);
+    let Reading::Bytes(n) = reading else {
+        return rt.eprintln(format_args!("{path}: cannot be read"));
+    };
+    rt.print(path)?;
     if n == 0 {
-        return;
+        return Ok(());
     }
     if buf[0] == 82 {
-        read_call(&buf[..n]);
+        read_call(rt, &buf[..n])?;
     } else {
-        write_call(&buf[..n]);
+        write_call(rt, &buf[..n])?;
     }
-    io::write_all(1, b"\n");
+    rt.write_all(b"\n")
 }
 
-fn main() {
-    let n = os::arg_count();
-    let mut i: usize = 1;
-    while i < n {
-        one(i);
-        i += 1;
+// Runs the call that the file named by an argument holds, and says whether there is such an argument. A name that is no text or longer
+// than the room is told in a line on standard error.
+fn one(rt: &(impl Env + Files + Print + Eprint), i: usize) -> io::Result<bool> {
+    let mut path = [0u8; 64];
+    match rt.arg(i, &mut path) {
+        Ok(k) => match str::from_utf8(&path[..k]) {
+            Ok(name) => run(rt, name)?,
+            Err(_) => rt.eprintln(format_args!("argument {i} is no text"))?,
+        },
+        Err(FillError::TooLong) => rt.eprintln(format_args!("argument {i} is too long"))?,
+        Err(FillError::NotPresent) => return Ok(false),
     }
+    Ok(true)
+}
+
+// A write that fails ends the run with its error.
+fn main(rt: HostRuntime) -> io::Result<()> {
+    for i in 1..usize::MAX {
+        if !one(&rt, i)? {
+            break;
+        }
+    }
+    Ok(())
 }

@@ -1,1 +1,1 @@
-pub mod Got
+mod Read

@@ -1,5 +1,4 @@
 -- The page is copied out where it fits. Assumes nothing.
-use borrow.Author.Rules.{rules}
 use native.Mathlib.Omega.{arith}
 use mathlib.Core.Path.{◌≡◌, sym}
 use lib.ListN.{length, take}

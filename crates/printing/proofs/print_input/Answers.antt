@@ -1,9 +1,7 @@
 -- The bytes that were read are answered in the room. Assumes nothing.
-use borrow.Author.Rules.{rules}
 use native.Mathlib.Omega.{arith}
 use Prim.Native.Nat.{◌≤◌}
 use mathlib.Core.Path.{◌≡◌, sym, ap}
-use mathlib.Core.Logic.{inl, inr}
 use lib.ListN.{length, take}
 use lib.Seq.{length-take-le}
 use Rattle.printing.proofs.Inputs.{past, answers_input}

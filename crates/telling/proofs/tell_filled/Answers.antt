@@ -1,5 +1,4 @@
 use mathlib.Core.Path.{refl, ap}
-use borrow.Author.Rules.{rules}
 use Rattle.canon.specs.Answers.{told}
 use Rattle.telling.specs.Telling.{gave, kept_back}
 use Rattle.telling.proofs.Fillings.{says_done}

@@ -1,5 +1,4 @@
 use mathlib.Core.Path.{refl, ap}
-use borrow.Author.Rules.{rules}
 use Rattle.printing.specs.Promise.{says}
 use Rattle.telling.specs.Telling.{gave, kept_back}
 use Rattle.telling.proofs.tell_printed.Goals as goal

@@ -1,5 +1,4 @@
 use mathlib.Core.Path.{refl, ap}
-use borrow.Author.Rules.{rules}
 use Rattle.reader.specs.Promise.{says}
 use Rattle.telling.specs.Telling.{read, at_line, refused}
 use Rattle.telling.proofs.Lines.{line_said, other_said}

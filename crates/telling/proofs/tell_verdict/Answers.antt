@@ -1,6 +1,5 @@
 use mathlib.Core.Path.{refl, ap}
 use mathlib.Core.Bool.{true, false}
-use borrow.Author.Rules.{rules}
 use Rattle.canon.specs.Answers.{judged}
 use Rattle.telling.specs.Telling.{gave, kept_back}
 use Rattle.telling.proofs.Verdicts.{says_yes, says_no}

@@ -66,12 +66,12 @@ pub record SomeWay (s end : ℕ) (givers row_of column_of : List ℕ) : Type 0 w
   pub long : Long row_of × Long column_of
 
 -- the marks after every such way back was gone: row s has its mark too, and no column has lost its own
-pub record Flipped (s end : ℕ) (givers row_of column_of row-of' column-of' : List ℕ) : Type 0 where
+pub record Flipped (s end : ℕ) (givers row_of column_of row_of' column_of' : List ℕ) : Type 0 where
   pub marking : (n : ℕ) (a : ℕ → ℕ → ℤ) (l : ℕ → ℕ) (h : ℕ → ℤ) → WayBack n a s l h (nums row_of) (nums column_of) (nums givers) end
-      → Marking n a (s + 1) l h (nums row-of') (nums column-of')
+      → Marking n a (s + 1) l h (nums row_of') (nums column_of')
   pub unmarked : (n : ℕ) (a : ℕ → ℕ → ℤ) (l : ℕ → ℕ) (h : ℕ → ℤ) → WayBack n a s l h (nums row_of) (nums column_of) (nums givers) end
-      → (j : ℕ) → j < n → n ≤ nums row-of' j → n ≤ nums row_of j
-  pub long : Long row-of' × Long column-of'
+      → (j : ℕ) → j < n → n ≤ nums row_of' j → n ≤ nums row_of j
+  pub long : Long row_of' × Long column_of'
 
 -- what the code holds when the rows below s are inserted, with no addition beyond what s insertions can make of one handed in
 pub record Ready (t : List ℤ) (n : ℕ) (start : ℕ → ℕ) (s : ℕ) (l : List ℕ) (h : List ℤ) (row_of column_of : List ℕ) : Type 0 where
@@ -108,10 +108,10 @@ pub record Met (t : List ℤ) (n s : ℕ) (l : List ℕ) (h : List ℤ) (row_of 
 
 -- row s is inserted, from whatever start; or there is no complete transversal
 pub record Inserted (t : List ℤ) (n s : ℕ) (l : List ℕ) (h : List ℤ) (row_of column_of : List ℕ) (found : Bool)
-    (l' : List ℕ) (h' : List ℤ) (row-of' column-of' : List ℕ) : Type 0 where
-  pub ready : found ≡ true → (start : ℕ → ℕ) → Ready t n start s l h row_of column_of → Ready t n start (s + 1) l' h' row-of' column-of'
+    (l' : List ℕ) (h' : List ℤ) (row_of' column_of' : List ℕ) : Type 0 where
+  pub ready : found ≡ true → (start : ℕ → ℕ) → Ready t n start s l h row_of column_of → Ready t n start (s + 1) l' h' row_of' column_of'
   pub none : found ≡ false → NoTransversal n (entry t n)
-  pub long : Long l' × Long h' × Long row-of' × Long column-of'
+  pub long : Long l' × Long h' × Long row_of' × Long column_of'
 
 -- the heads of all columns under the start; or a column has no order, and so there is no complete transversal
 pub record FirstOf (t : List ℤ) (n : ℕ) (start : List ℕ) (found : Bool) (h : List ℤ) : Type 0 where

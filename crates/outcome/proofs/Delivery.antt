@@ -37,16 +37,16 @@ cut {X} {n} lent from small p q = length-take (length lent) from ∙ least
 pub delivery : {t : List ℤ} {n : ℕ} {l adds stars : List ℕ} {heads : List ℤ} {w : WholeAnswer} {adds' stars' : List ℕ} {heads' : List ℤ}
     → n ≤ row_limit → Slices n adds stars heads → Long w.additions → Long w.stars → Long w.heads
     → WholeAnswerOf t n l w → HandedOut w adds stars heads adds' stars' heads' → Delivered t n l w.sum adds' stars' heads'
-delivery {t} {n} {l} {adds} {stars} {heads} {w} {adds'} {stars'} {heads'} small lent wide-adds wide-stars wide-heads whole out =
+delivery {t} {n} {l} {adds} {stars} {heads} {w} {adds'} {stars'} {heads'} small lent wide_adds wide_stars wide_heads whole out =
     record {
-      adds_long = ap length out.adds_are ∙ cut adds w.additions small lent.adds_long wide-adds;
+      adds_long = ap length out.adds_are ∙ cut adds w.additions small lent.adds_long wide_adds;
       adds_are = λ i hi.
           ap (λ (x : List ℕ). nums x i) (sym whole.same) ∙ sym (get_or-take (length adds) w.additions i 0 (omega (arith, lent.adds_long)))
           ∙ ap (λ (x : List ℕ). nums x i) (sym out.adds_are);
-      star_list = star_list (ap length out.stars_are ∙ cut stars w.stars small lent.stars_long wide-stars)
+      star_list = star_list (ap length out.stars_are ∙ cut stars w.stars small lent.stars_long wide_stars)
           (λ i hi. rw (← (same_stars i hi)) (whole.from_one i hi)) first;
       stars_are = first;
-      heads_long = ap length out.heads_are ∙ cut heads w.heads small lent.heads_long wide-heads;
+      heads_long = ap length out.heads_are ∙ cut heads w.heads small lent.heads_long wide_heads;
       heads_are = λ j hj. rw (out.heads_are, get_or-take (length heads) w.heads j (pos 0) (omega (arith, lent.heads_long))) (whole.heads j hj);
       is_sum = whole.is_sum ∙ sum_same n (entry t n) (λ i hi. ap (λ (x : ℕ). x - 1) (same_stars i hi));
     }

@@ -24,7 +24,7 @@ use Rattle.lines.specs.declared.Kept.TheVariants.{Line, Nothing as NoLine}
 use Rattle.lines.specs.Parts.{meant, before, size_after, HeadingIs, Store, store, Holds, row_count, col_count}
 use Rattle.lines.specs.Parts.{InSection, FewLabels, Within, FrontKept}
 use Rattle.lines.proofs.KeepLaws.{holding_length}
-use Rattle.reader.specs.declared.Walked.TheVariants.{Rows as Walked-as-Rows, Wrong}
+use Rattle.reader.specs.declared.Walked.TheVariants.{Rows as WalkedRows, Wrong}
 use Rattle.reader.specs.Parts.{Ends, WalkTells}
 
 -- ---- one line after the other
@@ -347,7 +347,7 @@ module _ {s : List ℕ} {t : List ℤ} {a b : List ℕ} where
         stopped = λ k e. let f : line ≡ k = cc in subst (λ x. WrongLine s x) f w;
       }
 
-  pub walk_good : {n : ℕ} → Ends s n t a b → WalkTells s (Walked-as-Rows n) t a b
+  pub walk_good : {n : ℕ} → Ends s n t a b → WalkTells s (WalkedRows n) t a b
   walk_good {n} w =
       record {
         ended = λ m e. let f : n ≡ m = cc in subst (λ x. Ends s x t a b) f w;

@@ -4,7 +4,7 @@ use Rattle.theory.specs.Limits.{row_limit}
 use Rattle.sheet.specs.Reading.{State, start, table_of, good, Reads, WrongLine}
 use Rattle.lines.specs.Parts.{store, Holds}
 use Rattle.reader.specs.declared.Walked.{Walked}
-use Rattle.reader.specs.declared.Walked.TheVariants.{Rows as Walked-as-Rows, Wrong}
+use Rattle.reader.specs.declared.Walked.TheVariants.{Rows as WalkedRows, Wrong}
 
 -- ---- the walk's end
 -- the sheet is good: N, and what its lines said is kept
@@ -18,5 +18,5 @@ pub record Ends (s : List ℕ) (n : ℕ) (t : List ℤ) (b c : List ℕ) : Type 
   pub few : n ≤ row_limit
 
 pub record WalkTells (s : List ℕ) (r : Walked) (t : List ℤ) (b c : List ℕ) : Type 0 where
-  pub ended : (n : ℕ) → r ≡ Walked-as-Rows n → Ends s n t b c
+  pub ended : (n : ℕ) → r ≡ WalkedRows n → Ends s n t b c
   pub stopped : (k : ℕ) → r ≡ Wrong k → WrongLine s k

@@ -17,11 +17,11 @@ use Rattle.sheet.specs.Sheet.{Labelled, Stands, sheet_of}
 use Rattle.sheet.proofs.Slots.{slots_length, labels_short}
 use Rattle.reader.specs.Promise as reading
 use Rattle.reader.specs.Promise.{Lent, written, ReadPromise, read}
-use Rattle.reader.proofs.PromiseLaws.{all_clear as read-clear}
+use Rattle.reader.proofs.PromiseLaws.{all_clear as read_clear}
 use Rattle.reader.proofs.Unique as reader
 use Rattle.writer.specs.Promise as writing
 use Rattle.writer.specs.Promise.{Model, model, Labelling, writer_tests, WritePromise, wrote}
-use Rattle.writer.proofs.Refusing.{all_clear as write-clear}
+use Rattle.writer.proofs.Refusing.{all_clear as write_clear}
 use Rattle.writer.proofs.Unique as writer
 use Rattle.sheet_round.proofs.Bound.{sheet_fits}
 
@@ -72,7 +72,7 @@ read_back h o o' k (wrote t c l g e) m m' a w p =
     let q : take k o' ≡ sheet_of t =
     ap (λ x. take k x) e ∙ take_at (sheet_of t) (drop (length (sheet_of t)) o) k (sym (given_once k (length (sheet_of t)) g)) in
     let u = reader.promise_once (sheet_of t) m m' (written t m) a (gives (length t.row_labels)) (subst (λ x. ReadPromise x m m' a) q p)
-    (read t (read-clear (sheet_of t) m w (sheet_fits t st)) (record { stands = st; is = refl }) refl refl) in
+    (read t (read_clear (sheet_of t) m w (sheet_fits t st)) (record { stands = st; is = refl }) refl refl) in
     record { table = t; is_handed = l; answer = u.answer ∙ ap gives (model_rows h o t c l); memory = u.memory }
 
 -- the front of a buffer over which x was written is x
@@ -108,7 +108,7 @@ write_back s m m' n (read t c x f e) o o' a g p =
     record { rows_are = sym re; cols_are = sym ce; rows_stand = st.rows_stand; cols_stand = st.cols_stand; entries_are = sym te } in
     let u = writer.promise_once h o o' (over s o) a (gives (length s)) p
     (wrote t
-    (write-clear h o (in_size (λ z. omega (arith, st.some)) (omega (arith, st.few)))
+    (write_clear h o (in_size (λ z. omega (arith, st.some)) (omega (arith, st.few)))
     (record { table_length = ap length te ∙ tl; rows_length = ap length re ∙ rl; cols_length = ap length ce ∙ cl })
     (subst⁻¹ (λ y. Entries order_limit y) te st.entries_stand) t is (omega (arith, ap length x.is)))
     is (ap (λ y. gives (length y)) x.is) (ap (λ y. over y o) x.is)) in

@@ -21,10 +21,10 @@ use Rattle.sheet.proofs.Orders.{entries_one}
 use Rattle.sheet.proofs.Matching.{sheet_once}
 use Rattle.reader.specs.Promise as reading
 use Rattle.reader.specs.Promise.{Lent, lent, written, ReadPromise, read}
-use Rattle.reader.proofs.PromiseLaws.{all_clear as read-clear}
+use Rattle.reader.proofs.PromiseLaws.{all_clear as read_clear}
 use Rattle.reader.proofs.Unique as reader
 use Rattle.writer.specs.Promise.{Model, model, Labelling, WritePromise, wrote}
-use Rattle.writer.proofs.Refusing.{all_clear as write-clear}
+use Rattle.writer.proofs.Refusing.{all_clear as write_clear}
 use Rattle.writer.proofs.Unique as writer
 use Rattle.sheet_round.proofs.Bound.{sheet_fits}
 use Rattle.sheet_round.proofs.Round.{front}
@@ -35,7 +35,7 @@ read_only : (t : Labelled) → Stands t → (m m' : Lent) (a : Said ℕ) → rea
     → reader.Same a (gives (length t.row_labels)) m' (written t m)
 read_only t st m m' a w p =
     reader.promise_once (sheet_of t) m m' (written t m) a (gives (length t.row_labels)) p
-    (read t (read-clear (sheet_of t) m w (sheet_fits t st)) (record { stands = st; is = refl }) refl refl)
+    (read t (read_clear (sheet_of t) m w (sheet_fits t st)) (record { stands = st; is = refl }) refl refl)
 
 -- the call of the writer that hands it the table t
 abbrev pub handing : Labelled → Model
@@ -47,7 +47,7 @@ write_only : (t : Labelled) → Stands t → (o o' : List ℕ) (a : Said ℕ) �
 write_only t st o o' a f p =
     writer.promise_once (handing t) o o' (over (sheet_of t) o) a (gives (length (sheet_of t))) p
     (wrote t
-    (write-clear (handing t) o (in_size (λ z. omega (arith, st.some)) st.few)
+    (write_clear (handing t) o (in_size (λ z. omega (arith, st.some)) st.few)
     (record {
       table_length = st.square;
       rows_length = slots_length t.row_labels (labels_short t.row_labels st.rows_stand);

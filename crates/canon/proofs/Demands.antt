@@ -10,15 +10,14 @@ use Rattle.theory.specs.Lists.{columns}
 use Rattle.theory.specs.Table.{entry}
 use Rattle.theory.specs.Cases.{Handed, nothing, additions, stars, Answerable}
 use Rattle.theory.proofs.Duality.{balance}
-use Rattle.orders.specs.Refusals.{numbers, Rising, Among, gives, refuses}
+use Rattle.orders.specs.Refusals.{numbers, Rising, Among, gives, refuses, says}
 use Rattle.orders.proofs.Refusals.{first_among, first_lowest, not_both}
 use Rattle.handed.specs.Conditions.{table_more, canon_more, star_more}
 use Rattle.handed.proofs.Basics.{additions_right, stars_right, table_rises, canon_rises, heads_rises, star_rises}
-use Rattle.canon.specs.Answers.{said}
+use Rattle.canon.specs.Answers.{Answer}
 use Rattle.canon.specs.Promises.{head_lengths}
 use Rattle.canon.specs.Demands.{Buffers, lengths, heads_tests_of, WellFormed, Route, tests, verdict_tests, numbers_of}
 use Rattle.canon.specs.Demands.{Demand1, Answered, Demand2, Demand3, Numbered, Limited}
-use Rattle.canon.specs.declared.Answer.{Answer}
 use Rattle.canon.proofs.Refusing.{past_first}
 use Rattle.canon.proofs.Unique.{solved_once, routed_once, judges_once, column_heads_once}
 use Rattle.canon.proofs.Theorems.{Result, routes, same_buffers, routed_refused, routed_due, routed_answers, routed_result, routed_otherwise}
@@ -66,7 +65,7 @@ module _ (n : ℕ) (t : List ℤ) where
       }
 
   -- what a route that answers wrote, and that what was handed to it leads
-  module _ (start : Handed) (b b' : Buffers) (r : Answer) (s : ℤ) (p : Route n t start b r b') (e : said r ≡ gives s) where
+  module _ (start : Handed) (b b' : Buffers) (r : Answer) (s : ℤ) (p : Route n t start b r b') (e : says r ≡ gives s) where
     result : Result n t b' s
     result = (routed_result b b' (routes n t start b b' r p) s e).1
 

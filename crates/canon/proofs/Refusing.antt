@@ -7,79 +7,24 @@ use Prim.Native.Nat.{ℕ}
 use native.Mathlib.Omega.{arith}
 use lib.IntN.{ℤ}
 use lib.ListN.{length}
-use Rattle.theory.specs.Lists.{nums, columns}
+use Rattle.std.specs.Prelude.{Result, Ok, Err, Option, None}
+use Rattle.theory.specs.Lists.{nums}
 use Rattle.theory.specs.Table.{entry}
-use Rattle.theory.specs.Canon.{Misplaced}
+use Rattle.theory.specs.Canon.{NoTransversal}
 use Rattle.theory.proofs.Unique.{misplaced_same}
-use Rattle.orders.specs.Refusals.{number_of, Test, First, Clear, WrongLength, RightLengths, refuses}
+use Rattle.orders.specs.Refusals.{number_of, values_of, Test, ◌given_when◌, First, Clear, RightLengths, gives, refuses, says}
 use Rattle.orders.specs.declared.Refusal.{Refusal}
-use Rattle.orders.specs.declared.Refusal.TheVariants.{Addition, StarList, NoTransversal, NoCanon, NotGreatest}
-use Rattle.orders.proofs.Refusals.{right_not_wrong, right_lengths}
-use Rattle.handed.specs.Conditions.{each, slices, basic, canon_more, canon_tests, star_more, star_tests}
-use Rattle.handed.specs.Handed.{Sound, Basic, WithinAs, ListedAs}
-use Rattle.handed.specs.declared.FirstTests.{FirstTests}
-use Rattle.handed.specs.declared.FirstTests.TheVariants as tests
-use Rattle.handed.specs.declared.Listed.{Listed}
+use Rattle.orders.specs.declared.Refusal.TheVariants.{Addition, StarList}
+use Rattle.orders.specs.declared.marks.Marked.{Marked}
+use Rattle.orders.proofs.Refusals.{right_not_wrong}
+use Rattle.handed.specs.Conditions.{NotGreatest, each, slices, basic, canon_more, canon_tests, star_more, star_tests}
+use Rattle.handed.specs.Handed.{Sound, Basic, WithinAs, Listed, ListedAs}
 use Rattle.handed.proofs.Basics.{entries_right, additions_right, stars_right}
 use Rattle.outcome.specs.Completion.{Slices}
-use Rattle.routes.specs.Routes.{GivenAdditions, ReducedFrom, GivenColumns, RaisedFrom}
+use Rattle.routes.specs.Routes.{GivenAdditions, Reduces, ReducedFrom, GivenColumns, raised_tests, Raises, RaisedFrom}
 use Rattle.routes.specs.declared.Reduced.{Reduced}
-use Rattle.routes.specs.declared.Raised.{Raised}
-use Rattle.canon.specs.Answers.{said, judged}
+use Rattle.canon.specs.Answers.{Answer}
 use Rattle.canon.specs.Promises.{Routed, refused, Judges, declines, says_yes, says_no}
-use Rattle.canon.specs.declared.Answer.{Answer}
-use Rattle.canon.specs.declared.Answer.TheVariants.{Refused}
-use Rattle.canon.specs.declared.Verdict.{Verdict}
-use Rattle.canon.specs.declared.Verdict.TheVariants as verdict
-
--- What is told of some lengths is told of others that are wrong exactly when those are.
-module _ {n : ℕ} {t : List ℤ} {ks js : List ℕ} {r : FirstTests} (to : WrongLength (each n ks) → WrongLength (each n js))
-    (back : WrongLength (each n js) → WrongLength (each n ks)) (b : Basic n t ks r) where
-  narrowed : Basic n t js r
-  narrowed =
-      record {
-        passed = λ e.
-            let s = b.passed e in
-            record {
-              in_size = s.in_size;
-              square = s.square;
-              fitting = right_lengths (each n js) (λ w. right_not_wrong (each n ks) s.fitting (back w));
-              entries = s.entries;
-            };
-        refused = λ q e. let p = b.refused q e in (first (number_of q) p.0, p.1);
-      }
-    where
-      wrong : WrongLength (slices n t ks) → WrongLength (slices n t js)
-      wrong (inl w) = inl w
-      wrong (inr w) = inr (to w)
-
-      right : (WrongLength (slices n t ks) → ⊥) → WrongLength (slices n t js) → ⊥
-      right f (inl w) = f (inl w)
-      right f (inr w) = f (inr (back w))
-
-      first : (k : ℕ) → First (basic n t ks []) k → First (basic n t js []) k
-      first k (inl p) = inl p
-      first k (inr (s, inl (w, e))) = inr (s, inl (wrong w, e))
-      first k (inr (s, inr (f, p))) = inr (s, inr (right f, p))
-
--- a length that is n itself asks nothing
-pub basic_own : {n : ℕ} {t : List ℤ} {ks : List ℕ} {r : FirstTests} → Basic n t (n ∷ ks) r → Basic n t ks r
-basic_own {n} {t} {ks} b = narrowed own (λ w. inr w) b
-  where
-    own : WrongLength (each n (n ∷ ks)) → WrongLength (each n ks)
-    own (inl ne) = absurd (ne refl)
-    own (inr w) = w
-
--- nor do three that are
-pub basic_given : {n k : ℕ} {t : List ℤ} {r : FirstTests} → Basic n t (k ∷ n ∷ n ∷ n ∷ []) r → Basic n t (k ∷ []) r
-basic_given {n} {k} b = narrowed three (λ w. elim w [ inl ne ↦ inl ne | inr none ↦ absurd none ]) b
-  where
-    three : WrongLength (each n (k ∷ n ∷ n ∷ n ∷ [])) → WrongLength (each n (k ∷ []))
-    three (inl ne) = inl ne
-    three (inr (inl ne)) = absurd (ne refl)
-    three (inr (inr (inl ne))) = absurd (ne refl)
-    three (inr (inr (inr (inl ne)))) = absurd (ne refl)
-    three (inr (inr (inr (inr none)))) = absurd none
 
 -- a refusal that is the first of the first three is the first of all
 pub first_of_all : (n : ℕ) (t : List ℤ) (ks : List ℕ) (more : List Test) (k : ℕ) → First (basic n t ks []) k → First (basic n t ks more) k
@@ -89,15 +34,15 @@ first_of_all n t ks more k (inr (s, inr (w, inl p))) = inr (s, inr (w, inl p))
 first_of_all n t ks more k (inr (s, inr (w, inr p))) = absurd p.1
 
 -- a route, and the yes-or-no, that refuse by one of the first three
-module _ {n : ℕ} {t : List ℤ} {ks : List ℕ} {r : FirstTests} (b : Basic n t ks r) (q : Refusal) (e : r ≡ tests.Refused q) where
+module _ {n : ℕ} {t : List ℤ} {ks : List ℕ} {r : Result Unit Refusal} (b : Basic n t ks r) (q : Refusal) (e : r ≡ Err q) where
   pub refuse_first : {more : List Test} {adds stars : List ℕ} {heads : List ℤ}
-      → Routed (basic n t ks more) n t adds stars heads (Refused q) adds stars heads
+      → Routed (basic n t ks more) n t adds stars heads (Err q) adds stars heads
   refuse_first {more} =
       let p = b.refused q e in
       refused (number_of q) (first_of_all n t ks more (number_of q) p.0) (ap (refuses (number_of q)) p.1) refl refl refl
 
-pub decline_first : {n : ℕ} {t : List ℤ} {given : List ℕ} {r : FirstTests} → Basic n t (length given ∷ []) r → (q : Refusal) → r ≡ tests.Refused q
-    → Judges n t given (verdict.Refused q)
+pub decline_first : {n : ℕ} {t : List ℤ} {given : List ℕ} {r : Result Unit Refusal} → Basic n t (length given ∷ []) r → (q : Refusal) → r ≡ Err q
+    → Judges n t given (Err q)
 decline_first {n} {t} {given} b q e =
     let p = b.refused q e in
     declines (number_of q) (first_of_all n t (length given ∷ []) (canon_more n t given) (number_of q) p.0) (ap (refuses (number_of q)) p.1)
@@ -111,84 +56,68 @@ module _ {n : ℕ} {t : List ℤ} {ks : List ℕ} (s : Sound n t ks) where
   past_clear more l = (s.in_size, (right_not_wrong (slices n t ks) (s.square.square, s.fitting), (entries_right s.entries, l)))
 
   -- a route that refuses by a later test
-  pub refuse_later : {more : List Test} {adds stars : List ℕ} {heads : List ℤ} {a : Answer} (k : ℕ) → First more k → said a ≡ refuses k []
+  pub refuse_later : {more : List Test} {adds stars : List ℕ} {heads : List ℤ} {a : Answer} (k : ℕ) → First more k → says a ≡ refuses k []
       → Routed (basic n t ks more) n t adds stars heads a adds stars heads
   refuse_later {more = more} k l says = refused k (past_first more k l) says refl refl refl
 
--- ---- additions handed in: each later test, where those before it do not apply
-module _ (n : ℕ) (t : List ℤ) {given : List ℕ} {b : Bool} (a : WithinAs given b) where
-  canon_4 : b ≡ false → First (canon_more n t given) 4
-  canon_4 e = inl (a.above e, refl)
+  -- or with the refusal that such a test tells
+  pub refuse_with : {more : List Test} {adds stars : List ℕ} {heads : List ℤ} (q : Refusal) → First more (number_of q) × (values_of q ≡ [])
+      → Routed (basic n t ks more) n t adds stars heads (Err q) adds stars heads
+  refuse_with {more = more} q p = refused (number_of q) (past_first more (number_of q) p.0) (ap (refuses (number_of q)) p.1) refl refl refl
 
-  module _ (low : b ≡ true) {r : Reduced} (f : ReducedFrom t n given r) where
-    canon_6 : r.found ≡ false → First (canon_more n t given) 6
-    canon_6 e = inr (additions_right (a.within low), inl (f.none e, refl))
+-- ---- additions handed in: the tests of what is within the limit come after the fourth
+module _ {n : ℕ} {t : List ℤ} {given : List ℕ} (a : WithinAs given true) where
+  canon_later : {r : Result Reduced Refusal} → ReducedFrom t n given r → (q : Refusal) → r ≡ Err q → First (canon_more n t given) (number_of q) × (values_of q ≡ [])
+  canon_later f q e = let p = f.refused q e in (inr (additions_right (a.within refl), p.0), p.1)
 
-    module _ (found : r.found ≡ true) where
-      canon_7 : r.canon ≡ false → First (canon_more n t given) 7
-      canon_7 e = inr (additions_right (a.within low), inr ((λ none. none _ (f.exists found).1), inl (f.no_canon found e, refl)))
-
-      pub canon_passed : r.canon ≡ true → Clear (canon_more n t given)
-      canon_passed e = (additions_right (a.within low), ((λ none. none _ (f.exists found).1), ((λ no_one. no_one (f.is_canon e)), tt)))
+  pub canon_passed : {x : Reduced} → Reduces t n given x → Clear (canon_more n t given)
+  canon_passed x = (additions_right (a.within refl), ((λ none. none _ x.least.canon.of_maxima.transversal), ((λ no_one. no_one x.is_canon), tt)))
 
 -- route 2
-module _ {n : ℕ} {t : List ℤ} {given ks adds stars : List ℕ} {heads : List ℤ} {b : Bool} (s : Sound n t ks) (a : WithinAs given b) where
-  pub refuse_addition : b ≡ false → Routed (canon_tests n t given ks) n t adds stars heads (Refused Addition) adds stars heads
-  refuse_addition e = refuse_later s 4 (canon_4 n t a e) refl
+module _ {n : ℕ} {t : List ℤ} {given ks adds stars : List ℕ} {heads : List ℤ} (s : Sound n t ks) where
+  pub refuse_addition : WithinAs given false → Routed (canon_tests n t given ks) n t adds stars heads (Err Addition) adds stars heads
+  refuse_addition a = refuse_later s 4 (inl (a.above refl, refl)) refl
 
-  module _ (low : b ≡ true) {r : Reduced} (f : ReducedFrom t n given r) where
-    pub refuse_table : r.found ≡ false → Routed (canon_tests n t given ks) n t adds stars heads (Refused NoTransversal) adds stars heads
-    refuse_table e = refuse_later s 6 (canon_6 n t a low f e) refl
-
-    pub refuse_no_canon : r.found ≡ true → r.canon ≡ false → Routed (canon_tests n t given ks) n t adds stars heads (Refused NoCanon) adds stars heads
-    refuse_no_canon found e = refuse_later s 7 (canon_7 n t a low f found e) refl
+  pub refuse_reduced : WithinAs given true → {r : Result Reduced Refusal} → ReducedFrom t n given r → (q : Refusal) → r ≡ Err q
+      → Routed (canon_tests n t given ks) n t adds stars heads (Err q) adds stars heads
+  refuse_reduced a f q e = refuse_with s q (canon_later a f q e)
 
 -- and the yes-or-no
-module _ {n : ℕ} {t : List ℤ} {given : List ℕ} {b : Bool} (s : Sound n t (length given ∷ [])) (a : WithinAs given b) where
-  decline_later : {v : Verdict} (k : ℕ) → First (canon_more n t given) k → judged v ≡ refuses k [] → Judges n t given v
-  decline_later k l says = declines k (past_first s (canon_more n t given) k l) says
+module _ {n : ℕ} {t : List ℤ} {given : List ℕ} (s : Sound n t (length given ∷ [])) where
+  decline_with : (q : Refusal) → First (canon_more n t given) (number_of q) × (values_of q ≡ []) → Judges n t given (Err q)
+  decline_with q p = declines (number_of q) (past_first s (canon_more n t given) (number_of q) p.0) (ap (refuses (number_of q)) p.1)
 
-  pub decline_addition : b ≡ false → Judges n t given (verdict.Refused Addition)
-  decline_addition e = decline_later 4 (canon_4 n t a e) refl
+  pub decline_addition : WithinAs given false → Judges n t given (Err Addition)
+  decline_addition a = decline_with Addition (inl (a.above refl, refl), refl)
 
-  module _ (low : b ≡ true) {r : Reduced} (f : ReducedFrom t n given r) where
-    pub decline_table : r.found ≡ false → Judges n t given (verdict.Refused NoTransversal)
-    decline_table e = decline_later 6 (canon_6 n t a low f e) refl
+  pub decline_reduced : WithinAs given true → {r : Result Reduced Refusal} → ReducedFrom t n given r → (q : Refusal) → r ≡ Err q → Judges n t given (Err q)
+  decline_reduced a f q e = decline_with q (canon_later a f q e)
 
-    module _ (found : r.found ≡ true) where
-      pub decline_no_canon : r.canon ≡ false → Judges n t given (verdict.Refused NoCanon)
-      decline_no_canon e = decline_later 7 (canon_7 n t a low f found e) refl
-
-      module _ (canon : r.canon ≡ true) where
-        pub judge_yes : r.unchanged ≡ true → Judges n t given verdict.Yes
-        judge_yes e = says_yes (past_clear s (canon_more n t given) (canon_passed n t a low f found canon)) refl ((f.judged canon).holds e)
-
-        pub judge_no : r.unchanged ≡ false → Judges n t given verdict.No
-        judge_no e = says_no (past_clear s (canon_more n t given) (canon_passed n t a low f found canon)) refl ((f.judged canon).fails e)
+  pub judge : WithinAs given true → {x : Reduced} → Reduces t n given x → Judges n t given (Ok x.unchanged)
+  judge a {x} f = go x.unchanged refl
+    where
+      go : (b : Bool) → x.unchanged ≡ b → Judges n t given (Ok x.unchanged)
+      go true e = says_yes (past_clear s (canon_more n t given) (canon_passed a f)) (ap gives e) (f.judged.holds e)
+      go false e = says_no (past_clear s (canon_more n t given) (canon_passed a f)) (ap gives e) (f.judged.fails e)
 
 -- ---- stars handed in: the same
-module _ {n : ℕ} {t : List ℤ} {given ks adds stars : List ℕ} {heads : List ℤ} {l : Listed} (s : Sound n t ks) (m : ListedAs n given l) where
-  pub refuse_stars : l.stands ≡ false → Routed (star_tests n t given ks) n t adds stars heads (Refused StarList) adds stars heads
-  refuse_stars e = refuse_later s 5 (inl (m.wrong e, refl)) refl
+module _ {n : ℕ} {t : List ℤ} {given ks adds stars : List ℕ} {heads : List ℤ} (s : Sound n t ks) where
+  pub refuse_stars : {o : Option Marked} → ListedAs n given o → o ≡ None → Routed (star_tests n t given ks) n t adds stars heads (Err StarList) adds stars heads
+  refuse_stars m e = refuse_later s 5 (inl (m.wrong e, refl)) refl
 
-  module _ (stands : l.stands ≡ true) {r : Raised} (f : RaisedFrom t n l.columns r) where
-    pub refuse_star_table : r.found ≡ false → Routed (star_tests n t given ks) n t adds stars heads (Refused NoTransversal) adds stars heads
-    refuse_star_table e = refuse_later s 6 (inr (stars_right (m.star_list stands), inl (f.none e, refl))) refl
+  pub refuse_raised : {m : Marked} → Listed n given m → {r : Result (List ℕ) Refusal} → RaisedFrom t n m.columns r → (q : Refusal) → r ≡ Err q
+      → Routed (star_tests n t given ks) n t adds stars heads (Err q) adds stars heads
+  refuse_raised {m} l f q e = let p = f.refused q e in refuse_with s q (inr (stars_right l.star_list, go (number_of q) p.0), p.1)
+    where
+      go : (k : ℕ) → First (raised_tests n t m.columns) k → First (6 given_when NoTransversal n (entry t n) ∷ 8 given_when NotGreatest n t given ∷ []) k
+      go k (inl p) = inl p
+      go k (inr (some, inl (w, i))) = inr (some, inl (misplaced_same n (entry t n) l.same w, i))
+      go k (inr (some, inr p)) = absurd p.1
 
-    pub refuse_not_greatest : r.found ≡ true → r.greatest ≡ false
-        → Routed (star_tests n t given ks) n t adds stars heads (Refused NotGreatest) adds stars heads
-    refuse_not_greatest found e =
-        refuse_later s 8
-        (inr (stars_right (m.star_list stands), inr ((λ none. none _ (f.exists found).1), inl (misplaced (f.misplaced found e), refl)))) refl
-      where
-        misplaced : Misplaced n (entry t n) (nums l.columns) → Misplaced n (entry t n) (columns given)
-        misplaced w = misplaced_same n (entry t n) (m.same stands) w
-
-pub stars_passed : (n : ℕ) (t : List ℤ) {given : List ℕ} {l : Listed} {r : Raised} → ListedAs n given l → l.stands ≡ true
-    → RaisedFrom t n l.columns r → r.greatest ≡ true → Clear (star_more n t given)
-stars_passed n t m stands f e = (
-  stars_right (m.star_list stands),
-  ((λ none. none _ (f.least e).canon.of_maxima.transversal), ((λ w. f.placed e (misplaced_same n (entry t n) (λ i hi. sym (m.same stands i hi)) w)), tt)),
+pub stars_passed : {n : ℕ} {t : List ℤ} {given l : List ℕ} {m : Marked} → Listed n given m → Raises t n m.columns l → Clear (star_more n t given)
+stars_passed {n} {t} l f = (
+  stars_right l.star_list,
+  ((λ none. none _ f.least.canon.of_maxima.transversal), ((λ w. f.placed (misplaced_same n (entry t n) (λ i hi. sym (l.same i hi)) w)), tt)),
 )
 
 -- ---- what later calls are given
@@ -198,20 +127,16 @@ pub lent : {n : ℕ} {adds stars : List ℕ} {heads : List ℤ} → RightLengths
 lent f = record { adds_long = f.0; stars_long = f.1.0; heads_long = f.1.1.0 }
 
 -- additions within the limit
-pub given_additions : {n : ℕ} {t : List ℤ} {given ks : List ℕ} {b : Bool} → Sound n t (length given ∷ ks) → WithinAs given b → b ≡ true
-    → GivenAdditions t n given
-given_additions s a low =
+pub given_additions : {n : ℕ} {t : List ℤ} {given ks : List ℕ} → Sound n t (length given ∷ ks) → WithinAs given true → GivenAdditions t n given
+given_additions s a =
     let long = s.fitting.0 in
-    record { square = s.square; entries = s.entries; long = long; limited = λ i hi. a.within low i (omega (arith, long)) }
+    record { entries = s.entries; long = long; limited = λ i hi. a.within refl i (omega (arith, long)) }
 
 -- the columns of a star list
-pub given_columns : {n : ℕ} {t : List ℤ} {given ks : List ℕ} {l : Listed} → Sound n t ks → ListedAs n given l → l.stands ≡ true
-    → GivenColumns t n l.columns
-given_columns {l = l} s m stands =
-    let k = m.marks stands in
+pub given_columns : {n : ℕ} {t : List ℤ} {given ks : List ℕ} {m : Marked} → Sound n t ks → Listed n given m → GivenColumns t n m.columns
+given_columns {m = m} s l =
     record {
-      square = s.square;
       entries = s.entries;
-      inside = k.column;
-      apart = λ i j hi hj e. sym (k.back i hi) ∙ ap (nums l.rows) e ∙ k.back j hj;
+      inside = l.marks.column;
+      apart = λ i j hi hj e. sym (l.marks.back i hi) ∙ ap (nums m.rows) e ∙ l.marks.back j hj;
     }

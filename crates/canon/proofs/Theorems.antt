@@ -17,18 +17,16 @@ use Rattle.theory.proofs.Signed.{signed}
 use Rattle.theory.proofs.Unique.{least_once}
 use Rattle.theory.proofs.Bounds as bounds
 use Rattle.theory.proofs.Decisions.{canon_known, not_less}
-use Rattle.orders.specs.Refusals.{Test, First, Clear, RightLengths, Said, gives, refuses}
+use Rattle.orders.specs.Refusals.{Test, First, Clear, RightLengths, Said, gives, refuses, says}
 use Rattle.orders.proofs.Refusals.{first_once, first_clear, given_once, not_both, right_lengths}
 use Rattle.orders.proofs.Entries.{clash}
 use Rattle.orders.proofs.Places.{within}
 use Rattle.handed.specs.Conditions.{each, slices, NotGreatest, basic, table_more, canon_more, star_more}
 use Rattle.handed.specs.Handed.{Sound}
 use Rattle.handed.proofs.Basics.{in_size, sized, entries_known, additions_known, additions_right, stars_known, stars_right}
-use Rattle.canon.specs.Answers.{said, judged}
+use Rattle.canon.specs.Answers.{Answer, Verdict}
 use Rattle.canon.specs.Promises.{Routed, refused, answered, Judges, declines, says_yes, says_no}
 use Rattle.canon.specs.Demands.{Buffers, buffers, lengths, WellFormed, Wanted, Route, tests, verdict_tests}
-use Rattle.canon.specs.declared.Answer.{Answer}
-use Rattle.canon.specs.declared.Verdict.{Verdict}
 use Rattle.canon.proofs.Refusing.{past_clear}
 
 -- ---- the promise of a route, whatever its tests
@@ -53,13 +51,13 @@ pub record Result (n : ℕ) (t : List ℤ) (b : Buffers) (s : ℤ) : Type 0 wher
 
 module _ {ts : List Test} {n : ℕ} {t : List ℤ} {r : Answer} (b b' : Buffers) where
   -- the first test that applies is given, and everything is as it was
-  pub routed_refused : Routes ts n t b r b' → (k : ℕ) → First ts k → (said r ≡ refuses k []) × (b' ≡ b)
+  pub routed_refused : Routes ts n t b r b' → (k : ℕ) → First ts k → (says r ≡ refuses k []) × (b' ≡ b)
   routed_refused (refused j q says x y z) k l =
       (says ∙ ap (λ (i : ℕ). refuses i []) (first_once ts j k q l), same_buffers b' b x y z)
   routed_refused (answered s clear says la ls lh sol) k l = absurd (first_clear ts k l clear)
 
   -- and nothing else is refused
-  pub routed_due : Routes ts n t b r b' → (k : ℕ) (vs : List ℕ) → said r ≡ refuses k vs → First ts k × (vs ≡ [])
+  pub routed_due : Routes ts n t b r b' → (k : ℕ) (vs : List ℕ) → says r ≡ refuses k vs → First ts k × (vs ≡ [])
   routed_due (refused j q says x y z) k vs e =
       let h : ◌≡◌ {A = Said ℤ} (refuses j []) (refuses k vs) = sym says ∙ e in
       let same : j ≡ k = cc in
@@ -68,18 +66,18 @@ module _ {ts : List Test} {n : ℕ} {t : List ℤ} {r : Answer} (b b' : Buffers)
   routed_due (answered s clear says la ls lh sol) k vs e = not_both s k vs (sym says ∙ e)
 
   -- where no test applies there is an answer,
-  pub routed_answers : Routes ts n t b r b' → Clear ts → (s : ℤ) × (said r ≡ gives s)
+  pub routed_answers : Routes ts n t b r b' → Clear ts → (s : ℤ) × (says r ≡ gives s)
   routed_answers (refused k l says x y z) clear = absurd (first_clear ts k l clear)
   routed_answers (answered s c says la ls lh sol) clear = (s, says)
 
   -- and where there is one, no test applies, and it is the table's
-  pub routed_result : Routes ts n t b r b' → (s : ℤ) → said r ≡ gives s → Clear ts × Result n t b' s
+  pub routed_result : Routes ts n t b r b' → (s : ℤ) → says r ≡ gives s → Clear ts × Result n t b' s
   routed_result (refused k l says x y z) s e = not_both s k [] (sym e ∙ says)
   routed_result (answered z clear says la ls lh sol) s e =
       (clear, record { adds_long = la; star_list = ls; heads_long = lh; solution = rw (given_once s z (sym e ∙ says)) sol })
 
   -- a call that may not answer refuses
-  pub routed_otherwise : Routes ts n t b r b' → ((s : ℤ) → said r ≡ gives s → ⊥) → (k : ℕ) × (said r ≡ refuses k []) × (b' ≡ b)
+  pub routed_otherwise : Routes ts n t b r b' → ((s : ℤ) → says r ≡ gives s → ⊥) → (k : ℕ) × (says r ≡ refuses k []) × (b' ≡ b)
   routed_otherwise (refused k l says x y z) none = (k, says, same_buffers b' b x y z)
   routed_otherwise (answered s clear says la ls lh sol) none = absurd (none s says)
 
@@ -170,12 +168,12 @@ module _ (n : ℕ) (t : List ℤ) where
 
 -- ---- the yes-or-no
 module _ {n : ℕ} {t : List ℤ} {given : List ℕ} {v : Verdict} where
-  pub judged_refused : Judges n t given v → (k : ℕ) → First (verdict_tests n t given) k → judged v ≡ refuses k []
+  pub judged_refused : Judges n t given v → (k : ℕ) → First (verdict_tests n t given) k → says v ≡ refuses k []
   judged_refused (declines j q says) k l = says ∙ ap (λ (i : ℕ). refuses i []) (first_once (verdict_tests n t given) j k q l)
   judged_refused (says_yes clear says s) k l = absurd (first_clear (verdict_tests n t given) k l clear)
   judged_refused (says_no clear says f) k l = absurd (first_clear (verdict_tests n t given) k l clear)
 
-  pub judged_due : Judges n t given v → (k : ℕ) (vs : List ℕ) → judged v ≡ refuses k vs → First (verdict_tests n t given) k × (vs ≡ [])
+  pub judged_due : Judges n t given v → (k : ℕ) (vs : List ℕ) → says v ≡ refuses k vs → First (verdict_tests n t given) k × (vs ≡ [])
   judged_due (declines j q says) k vs e =
       let h : ◌≡◌ {A = Said Bool} (refuses j []) (refuses k vs) = sym says ∙ e in
       let same : j ≡ k = cc in
@@ -185,17 +183,17 @@ module _ {n : ℕ} {t : List ℤ} {given : List ℕ} {v : Verdict} where
   judged_due (says_no clear says f) k vs e = not_both false k vs (sym says ∙ e)
 
   -- yes to the simplest canon, and to nothing else
-  pub judged_yes : Judges n t given v → judged v ≡ gives true → Simplest n (entry t n) (nums given) × (length given ≡ n)
+  pub judged_yes : Judges n t given v → says v ≡ gives true → Simplest n (entry t n) (nums given) × (length given ≡ n)
   judged_yes (declines k l says) e = not_both true k [] (sym e ∙ says)
   judged_yes (says_yes clear says s) e = (s, (sound_clear n t (length given ∷ []) (canon_more n t given) clear).fitting.0)
   judged_yes (says_no clear says f) e = clash (sym (given_once true false (sym e ∙ says))) refl
 
-  pub yes_judged : Judges n t given v → Clear (verdict_tests n t given) → Simplest n (entry t n) (nums given) → judged v ≡ gives true
+  pub yes_judged : Judges n t given v → Clear (verdict_tests n t given) → Simplest n (entry t n) (nums given) → says v ≡ gives true
   yes_judged (declines k l says) clear s = absurd (first_clear (verdict_tests n t given) k l clear)
   yes_judged (says_yes c says u) clear s = says
   yes_judged (says_no c says f) clear s = absurd (f s)
 
-  pub no_judged : Judges n t given v → Clear (verdict_tests n t given) → (Simplest n (entry t n) (nums given) → ⊥) → judged v ≡ gives false
+  pub no_judged : Judges n t given v → Clear (verdict_tests n t given) → (Simplest n (entry t n) (nums given) → ⊥) → says v ≡ gives false
   no_judged (declines k l says) clear f = absurd (first_clear (verdict_tests n t given) k l clear)
   no_judged (says_yes c says s) clear f = absurd (f s)
   no_judged (says_no c says g) clear f = says

@@ -11,16 +11,15 @@ use Rattle.theory.specs.Table.{entry}
 use Rattle.theory.specs.Canon.{AtMost, ColumnHead, Heads}
 use Rattle.theory.proofs.Duality.{head_once}
 use Rattle.theory.proofs.Ties.{head_lowest, head_holders, head_empty, none_holds, canon_holders, column_head, column_head_within}
-use Rattle.orders.specs.Refusals.{Said, First, gives, refuses}
+use Rattle.orders.specs.Refusals.{Said, First, gives, refuses, says}
 use Rattle.orders.proofs.Refusals.{first_once, first_clear, not_both}
 use Rattle.orders.proofs.Places.{within}
 use Rattle.handed.specs.Conditions.{heads_more}
 use Rattle.handed.specs.Handed.{Sound}
 use Rattle.handed.proofs.Basics.{additions_known}
-use Rattle.canon.specs.Answers.{told}
+use Rattle.canon.specs.Answers.{Filled}
 use Rattle.canon.specs.Promises.{head_lengths, leaves, fills}
 use Rattle.canon.specs.Demands.{HeadBuffers, head_buffers, FillsHeads, heads_tests_of, Request1}
-use Rattle.canon.specs.declared.Filled.{Filled}
 use Rattle.canon.proofs.Unique.{same_list}
 use Rattle.canon.proofs.Theorems.{sound_clear, routes, routed_result}
 
@@ -38,12 +37,12 @@ pub record HeadsTold (n : ℕ) (t : List ℤ) (given : List ℕ) (b b' : HeadBuf
   pub tops : (j : ℕ) → j < n → ColumnHead n (entry t n) (nums given) j (ints b'.heads j) (nums b'.rows j) (nums b'.counts j)
 
 module _ {n : ℕ} {t : List ℤ} {given : List ℕ} {r : Filled} (b b' : HeadBuffers) where
-  pub heads_refused : FillsHeads n t given b r b' → (k : ℕ) → First (heads_tests_of n t given b) k → (told r ≡ refuses k []) × (b' ≡ b)
+  pub heads_refused : FillsHeads n t given b r b' → (k : ℕ) → First (heads_tests_of n t given b) k → (says r ≡ refuses k []) × (b' ≡ b)
   heads_refused (leaves j q says x y z) k l =
       (says ∙ ap (λ (i : ℕ). refuses i []) (first_once (heads_tests_of n t given b) j k q l), same_head_buffers b' b x y z)
   heads_refused (fills clear says lh lr lc f) k l = absurd (first_clear (heads_tests_of n t given b) k l clear)
 
-  pub heads_due : FillsHeads n t given b r b' → (k : ℕ) (vs : List ℕ) → told r ≡ refuses k vs → First (heads_tests_of n t given b) k × (vs ≡ [])
+  pub heads_due : FillsHeads n t given b r b' → (k : ℕ) (vs : List ℕ) → says r ≡ refuses k vs → First (heads_tests_of n t given b) k × (vs ≡ [])
   heads_due (leaves j q says x y z) k vs e =
       let h : ◌≡◌ {A = Said Unit} (refuses j []) (refuses k vs) = sym says ∙ e in
       let same : j ≡ k = cc in
@@ -51,7 +50,7 @@ module _ {n : ℕ} {t : List ℤ} {given : List ℕ} {r : Filled} (b b' : HeadBu
       (rw same at q, none)
   heads_due (fills clear says lh lr lc f) k vs e = not_both tt k vs (sym says ∙ e)
 
-  pub heads_told : FillsHeads n t given b r b' → told r ≡ gives tt → HeadsTold n t given b b'
+  pub heads_told : FillsHeads n t given b r b' → says r ≡ gives tt → HeadsTold n t given b b'
   heads_told (leaves k q says x y z) e = not_both tt k [] (sym e ∙ says)
   heads_told (fills clear says lh lr lc f) e =
       let s = sound_clear n t (head_lengths given b.heads b.rows b.counts) (heads_more given) clear in

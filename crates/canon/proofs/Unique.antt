@@ -1,7 +1,6 @@
 -- No second answer and no second memory meets the promise of a call. Assumes nothing.
-use mathlib.Core.Path.{◌≡◌, refl, sym, ◌∙◌, ap}
+use mathlib.Core.Path.{◌≡◌, sym, ◌∙◌, ap}
 use mathlib.Core.List.{List, [], ◌∷◌}
-use mathlib.Core.Bool.{true, false}
 use Prim.Native.Nat.{ℕ, ◌<◌}
 use native.Mathlib.Omega.{arith}
 use lib.IntN.{ℤ, pos}
@@ -12,24 +11,11 @@ use Rattle.theory.specs.Canon.{Solution}
 use Rattle.theory.specs.Table.{entry}
 use Rattle.theory.proofs.Unique.{solution_once}
 use Rattle.theory.proofs.Ties.{column_head_once}
-use Rattle.orders.specs.Refusals.{number_of, values_of, Test, gives}
-use Rattle.orders.proofs.Refusals.{first_clear, refused_once, refusal_once, given_once, not_both}
+use Rattle.orders.specs.Refusals.{Test, gives, says}
+use Rattle.orders.proofs.Refusals.{first_clear, refused_once, says_once}
 use Rattle.handed.specs.Conditions.{canon_tests, heads_tests}
-use Rattle.canon.specs.Answers.{said, judged, told}
+use Rattle.canon.specs.Answers.{Answer, Verdict, Filled}
 use Rattle.canon.specs.Promises.{Routed, refused, answered, Judges, declines, says_yes, says_no, head_lengths, ColumnHeads, leaves, fills}
-use Rattle.canon.specs.declared.Answer.{Answer}
-use Rattle.canon.specs.declared.Answer.TheVariants.{Sum, Refused}
-use Rattle.canon.specs.declared.Verdict.{Verdict}
-use Rattle.canon.specs.declared.Verdict.TheVariants as verdict
-use Rattle.canon.specs.declared.Filled.{Filled}
-use Rattle.canon.specs.declared.Filled.TheVariants as filled
-
--- ---- an answer is told by what it says
-pub answer_once : (r s : Answer) → said r ≡ said s → r ≡ s
-answer_once (Sum x) (Sum y) e = ap Sum (given_once x y e)
-answer_once (Sum x) (Refused q) e = not_both x (number_of q) (values_of q) e
-answer_once (Refused p) (Sum y) e = not_both y (number_of p) (values_of p) (sym e)
-answer_once (Refused p) (Refused q) e = ap Refused (refusal_once p q e)
 
 -- ---- routes
 -- two lists of one length that agree below it are one
@@ -50,13 +36,13 @@ pub record One (r s : Answer) (adds adds' stars stars' : List ℕ) (heads heads'
 
 -- two solutions in lists of the wanted length, whatever was lent and whatever was tested
 pub solved_once : {n : ℕ} {a : ℕ → ℕ → ℤ} {r s : Answer} {x y : ℤ} (adds adds' stars stars' : List ℕ) (heads heads' : List ℤ)
-    → said r ≡ gives x → said s ≡ gives y → length adds ≡ n → length adds' ≡ n → StarList n stars → StarList n stars' → length heads ≡ n → length heads' ≡ n
+    → says r ≡ gives x → says s ≡ gives y → length adds ≡ n → length adds' ≡ n → StarList n stars → StarList n stars' → length heads ≡ n → length heads' ≡ n
     → Solution n a (λ i. 0) (nums adds) (columns stars) (ints heads) x → Solution n a (λ i. 0) (nums adds') (columns stars') (ints heads') y
     → One r s adds adds' stars stars' heads heads'
 solved_once {n} {a} {r} {s} adds adds' stars stars' heads heads' p q la la' ls ls' lh lh' u v =
     let o = solution_once n a u v in
     record {
-      answer = answer_once r s (p ∙ ap gives o.one_sum ∙ sym q);
+      answer = says_once r s (p ∙ ap gives o.one_sum ∙ sym q);
       same_adds = same_list 0 adds adds' la la' o.additions;
       same_stars = same_stars stars stars' ls ls' o.stars;
       same_heads = same_list (pos 0) heads heads' lh lh' o.heads;
@@ -68,7 +54,7 @@ pub routed_once : {tests : List Test} {n : ℕ} {t : List ℤ} {adds stars : Lis
     → Routed tests n t adds stars heads r a c e → Routed tests n t adds stars heads s b d f → One r s a b c d e f
 routed_once {tests} {r = r} {s = s} (refused j p u x y z) (refused k q v x' y' z') =
     record {
-      answer = answer_once r s (refused_once tests p u q v);
+      answer = says_once r s (refused_once tests p u q v);
       same_adds = x ∙ sym x';
       same_stars = y ∙ sym y';
       same_heads = z ∙ sym z';
@@ -79,40 +65,23 @@ routed_once {a = a} {b} {c} {d} {e} {f} (answered x p u la ls lh sol) (answered 
     solved_once a b c d e f u v la la' ls ls' lh lh' sol sol'
 
 -- ---- the yes-or-no
-pub verdict_once : (v w : Verdict) → judged v ≡ judged w → v ≡ w
-verdict_once verdict.Yes verdict.Yes e = refl
-verdict_once verdict.Yes verdict.No e = absurd (let z = given_once true false e in let y : ◌≡◌ {A = ℕ} 0 1 = cc in omega arith)
-verdict_once verdict.Yes (verdict.Refused q) e = not_both true (number_of q) (values_of q) e
-verdict_once verdict.No verdict.Yes e = absurd (let z = given_once false true e in let y : ◌≡◌ {A = ℕ} 0 1 = cc in omega arith)
-verdict_once verdict.No verdict.No e = refl
-verdict_once verdict.No (verdict.Refused q) e = not_both false (number_of q) (values_of q) e
-verdict_once (verdict.Refused p) verdict.Yes e = not_both true (number_of p) (values_of p) (sym e)
-verdict_once (verdict.Refused p) verdict.No e = not_both false (number_of p) (values_of p) (sym e)
-verdict_once (verdict.Refused p) (verdict.Refused q) e = ap verdict.Refused (refusal_once p q e)
-
 -- the promise of the yes-or-no determines its answer
 module _ (n : ℕ) (t : List ℤ) (given : List ℕ) where
   abbrev tests : List Test
   tests = canon_tests n t given (length given ∷ [])
 
   pub judges_once : {v w : Verdict} → Judges n t given v → Judges n t given w → v ≡ w
-  judges_once {v} {w} (declines j p u) (declines k q x) = verdict_once v w (refused_once tests p u q x)
+  judges_once {v} {w} (declines j p u) (declines k q x) = says_once v w (refused_once tests p u q x)
   judges_once (declines j p u) (says_yes q x s) = absurd (first_clear tests j p q)
   judges_once (declines j p u) (says_no q x s) = absurd (first_clear tests j p q)
   judges_once (says_yes q x s) (declines j p u) = absurd (first_clear tests j p q)
-  judges_once {v} {w} (says_yes q x s) (says_yes p y t) = verdict_once v w (x ∙ sym y)
+  judges_once {v} {w} (says_yes q x s) (says_yes p y t) = says_once v w (x ∙ sym y)
   judges_once (says_yes q x s) (says_no p y f) = absurd (f s)
   judges_once (says_no q x f) (declines j p u) = absurd (first_clear tests j p q)
   judges_once (says_no q x f) (says_yes p y s) = absurd (f s)
-  judges_once {v} {w} (says_no q x f) (says_no p y g) = verdict_once v w (x ∙ sym y)
+  judges_once {v} {w} (says_no q x f) (says_no p y g) = says_once v w (x ∙ sym y)
 
 -- ---- the heads of all columns
-pub filled_once : (r s : Filled) → told r ≡ told s → r ≡ s
-filled_once filled.Done filled.Done e = refl
-filled_once filled.Done (filled.Refused q) e = not_both tt (number_of q) (values_of q) e
-filled_once (filled.Refused p) filled.Done e = not_both tt (number_of p) (values_of p) (sym e)
-filled_once (filled.Refused p) (filled.Refused q) e = ap filled.Refused (refusal_once p q e)
-
 -- what two answers to one call have in common: everything
 pub record OneFilling (r s : Filled) (heads heads' : List ℤ) (rows rows' counts counts' : List ℕ) : Type 0 where
   pub answer : r ≡ s
@@ -126,7 +95,7 @@ module _ (n : ℕ) (t : List ℤ) (given : List ℕ) (heads : List ℤ) (rows co
       → ColumnHeads n t given heads rows counts s k b d → OneFilling r s h k a b c d
   column_heads_once {r} {s} (leaves i p u x y z) (leaves j q v x' y' z') =
       record {
-        answer = filled_once r s (refused_once (heads_tests n t given (head_lengths given heads rows counts)) p u q v);
+        answer = says_once r s (refused_once (heads_tests n t given (head_lengths given heads rows counts)) p u q v);
         same_heads = x ∙ sym x';
         same_rows = y ∙ sym y';
         same_counts = z ∙ sym z';
@@ -135,7 +104,7 @@ module _ (n : ℕ) (t : List ℤ) (given : List ℕ) (heads : List ℤ) (rows co
   column_heads_once (fills q v lh lr lc f) (leaves i p u x y z) = absurd (first_clear (heads_tests n t given (head_lengths given heads rows counts)) i p q)
   column_heads_once {r} {s} {h} {k} {a} {b} {c} {d} (fills p u lh lr lc f) (fills q v lh' lr' lc' g) =
       record {
-        answer = filled_once r s (u ∙ sym v);
+        answer = says_once r s (u ∙ sym v);
         same_heads = same_list (pos 0) h k lh lh' (λ j hj. (column_head_once n (entry t n) (f j hj) (g j hj)).one_head);
         same_rows = same_list 0 a b lr lr' (λ j hj. (column_head_once n (entry t n) (f j hj) (g j hj)).one_row);
         same_counts = same_list 0 c d lc lc' (λ j hj. (column_head_once n (entry t n) (f j hj) (g j hj)).one_count);

@@ -1,25 +1,19 @@
 #![tactic(auto)]
 
-ghost use Rattle.canon.specs.Answers.{said, judged, told};
+ghost use Rattle.std.specs.Prelude.{ℕ, Result};
+ghost use Rattle.orders.specs.Refusals.{says};
+ghost use Rattle.orders.specs.declared.Refusal.{Refusal};
+ghost use Rattle.canon.specs.Answers.{Answer, Verdict, Filled};
 ghost use Rattle.canon.specs.Promises.{Solves, FromCanon, FromStars, Judges, ColumnHeads};
-ghost use Rattle.canon.specs.declared.Verdict.{Verdict};
-ghost use Rattle.canon.specs.declared.Answer.{Answer};
-ghost use Rattle.canon.specs.declared.Filled.{Filled};
 ghost use Rattle.reader.specs.Promise.{ReadPromise, lent};
-ghost use Rattle.reader.specs.Promise as reader;
-ghost use Rattle.reader.specs.declared.Read.{Read};
 ghost use Rattle.writer.specs.Promise.{WritePromise, model};
-ghost use Rattle.writer.specs.Promise as writer;
-ghost use Rattle.writer.specs.declared.Written.{Written};
 ghost use Rattle.printing.specs.Promise.{PrintPromise};
-ghost use Rattle.printing.specs.Promise as printing;
-ghost use Rattle.printing.specs.declared.Printed.{Printed};
 ghost use Rattle.telling.specs.Telling.{itself, no_result, bit};
 ghost use Rattle.exports.specs.Told.{Told, ToldRead};
 
-use telling::{tell_filled, tell_printed, tell_read, tell_sum, tell_verdict, tell_written};
+use telling::{tell, tell_read, tell_verdict};
 
-// Route 1. Rules out lists written in each other's places, another N than the caller's, and what tell_sum rules out.
+// Route 1. Rules out lists written in each other's places, another N than the caller's, and what tell rules out.
 #[unsafe(no_mangle)]
 pub extern "C" fn canon_solve(
     n: usize,
@@ -33,10 +27,9 @@ pub extern "C" fn canon_solve(
         (λ (a : Answer).
         Solves n table.now adds.old stars.old heads.old a
         adds.new stars.new heads.new)
-        said itself result sum.old sum.new }
+        says itself result sum.old sum.new }
 {
-    let answer = canon::solve(n, table, adds, stars, heads);
-    tell_sum(answer, sum)
+    tell(canon::solve(n, table, adds, stars, heads), sum)
 }
 
 // Route 2. Rules out what canon_solve rules out.
@@ -54,10 +47,9 @@ pub extern "C" fn canon_from_canon(
         (λ (a : Answer).
         FromCanon n table.now given.now adds.old stars.old heads.old a
         adds.new stars.new heads.new)
-        said itself result sum.old sum.new }
+        says itself result sum.old sum.new }
 {
-    let answer = canon::from_canon(n, table, given, adds, stars, heads);
-    tell_sum(answer, sum)
+    tell(canon::from_canon(n, table, given, adds, stars, heads), sum)
 }
 
 // Route 3. Rules out what canon_solve rules out.
@@ -75,23 +67,21 @@ pub extern "C" fn canon_from_stars(
         (λ (a : Answer).
         FromStars n table.now given.now adds.old stars.old heads.old a
         adds.new stars.new heads.new)
-        said itself result sum.old sum.new }
+        says itself result sum.old sum.new }
 {
-    let answer = canon::from_stars(n, table, given, adds, stars, heads);
-    tell_sum(answer, sum)
+    tell(canon::from_stars(n, table, given, adds, stars, heads), sum)
 }
 
 // The yes-or-no. Rules out another N than the caller's, and what tell_verdict rules out.
 #[unsafe(no_mangle)]
 pub extern "C" fn canon_is_simplest(n: usize, table: &[i16], given: &[u32], yes: &mut u8) -> u32
-    ensures { Told (λ (a : Verdict). Judges n table.now given.now a) judged bit result yes.old yes.new }
+    ensures { Told (λ (a : Verdict). Judges n table.now given.now a) says bit result yes.old yes.new }
 {
-    let verdict = canon::is_simplest(n, table, given);
-    tell_verdict(verdict, yes)
+    tell_verdict(canon::is_simplest(n, table, given), yes)
 }
 
 // Head, lowest row and count of every column. Rules out lists written in each other's places, another N than the caller's, and what
-// tell_filled rules out.
+// tell rules out.
 #[unsafe(no_mangle)]
 pub extern "C" fn canon_column_heads(
     n: usize,
@@ -105,10 +95,12 @@ pub extern "C" fn canon_column_heads(
         (λ (a : Filled).
         ColumnHeads n table.now given.now heads.old rows.old counts.old a
         heads.new rows.new counts.new)
-        told itself result no_result no_result }
+        says itself result no_result no_result }
 {
-    let answer = canon::column_heads(n, table, given, heads, rows, counts);
-    tell_filled(answer)
+    tell(
+        canon::column_heads(n, table, given, heads, rows, counts),
+        &mut (),
+    )
 }
 
 // The reader. Rules out rows' labels in the columns' place, N in the line's, and what tell_read rules out.
@@ -122,16 +114,15 @@ pub extern "C" fn canon_read_sheet(
     line: &mut usize,
 ) -> u32
     ensures { ToldRead
-        (λ (a : Read).
+        (λ (a : Result ℕ Refusal).
         ReadPromise sheet.now (lent table.old rows.old cols.old)
-        (lent table.new rows.new cols.new) (reader.says a))
-        reader.says result n.old line.old n.new line.new }
+        (lent table.new rows.new cols.new) (says a))
+        says result n.old line.old n.new line.new }
 {
-    let answer = reader::read_sheet(sheet, table, rows, cols);
-    tell_read(answer, n, line)
+    tell_read(reader::read_sheet(sheet, table, rows, cols), n, line)
 }
 
-// The writer. Rules out rows' labels in the columns' place, another N than the caller's, and what tell_written rules out.
+// The writer. Rules out rows' labels in the columns' place, another N than the caller's, and what tell rules out.
 #[unsafe(no_mangle)]
 pub extern "C" fn canon_write_sheet(
     n: usize,
@@ -142,21 +133,19 @@ pub extern "C" fn canon_write_sheet(
     length: &mut usize,
 ) -> u32
     ensures { Told
-        (λ (a : Written).
+        (λ (a : Result ℕ Refusal).
         WritePromise (model n table.now rows.now cols.now) out.old out.new
-        (writer.says a))
-        writer.says itself result length.old length.new }
+        (says a))
+        says itself result length.old length.new }
 {
-    let answer = writer::write_sheet(n, table, rows, cols, out);
-    tell_written(answer, length)
+    tell(writer::write_sheet(n, table, rows, cols, out), length)
 }
 
-// The program's whole answer to a sheet. Rules out another text, and what tell_printed rules out.
+// The program's whole answer to a sheet. Rules out another text, and what tell rules out.
 #[unsafe(no_mangle)]
 pub extern "C" fn canon_print(sheet: &[u8], out: &mut [u8], length: &mut usize) -> u32
-    ensures { Told (λ (a : Printed). PrintPromise sheet.now out.old out.new (printing.says a))
-        printing.says itself result length.old length.new }
+    ensures { Told (λ (a : Result ℕ Refusal). PrintPromise sheet.now out.old out.new (says a))
+        says itself result length.old length.new }
 {
-    let answer = printing::print_answer(sheet, out);
-    tell_printed(answer, length)
+    tell(printing::print_answer(sheet, out), length)
 }

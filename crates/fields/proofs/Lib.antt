@@ -1,4 +1,3 @@
-pub mod Answers
 pub mod LineLaws
 pub mod NumberLaws
 pub mod SignedLaws

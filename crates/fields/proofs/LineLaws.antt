@@ -1,12 +1,10 @@
 -- The first line of a text, and what stands behind it. Assumes nothing.
 use mathlib.Core.Path.{◌≡◌, refl, sym, ap, subst⁻¹, ◌∙◌}
-use mathlib.Core.Logic.{◌≢◌}
-use mathlib.Core.List.{List, ◌∷◌, ◌++◌}
-use Prim.Native.Nat.{ℕ, suc, ◌+◌, ◌<◌}
+use mathlib.Core.List.{List, ◌∷◌}
+use Prim.Native.Nat.{ℕ, ◌+◌}
 use native.Mathlib.Omega.{arith}
-use native.Mathlib.Numerals.{add-one}
 use lib.ListN.{length, take, drop, length-append}
-use lib.Seq.{split_at, take_at, drop-append-add, get_or-take, length-take-le}
+use lib.Seq.{take_at, drop-append-add}
 use Rattle.sheet.specs.Text.{feed}
 use Rattle.sheet.specs.Reading.{Ended}
 use Rattle.sheet.proofs.Lines.{ended_once, unbroken_unended}
@@ -34,22 +32,6 @@ module _ {s l x : List ℕ} (e : Ended s l x) where
 pub line_only : {s : List ℕ} {e : ℕ} → LineIs s e → (l x : List ℕ) → Ended s l x → l ≡ take e s
 line_only {s} {e} f l x g = (ended_once s l x (take e s) (drop (e + 1) s) g f.ended).0
 
--- bytes that are no line feeds are a line where a line feed follows them; a text of such bytes has none
-module _ {s : List ℕ} {e : ℕ} (b : BeforeFeed s e) where
-  pub line_found : e ≢ length s → LineIs s e
-  line_found more =
-      let h : e < length s = omega (arith, b.inside) in
-      let w : length (take e s) ≡ e = length-take-le e s b.inside in
-      record {
-        ended =
-            record {
-              parts =
-                  split_at s e 0 h
-                  ∙ ap (λ y. take e s ++ y ∷ drop (suc e) s) (b.here h) ∙ ap (λ i. take e s ++ feed ∷ drop i s) (sym (add-one e));
-              whole = λ k g. rw (get_or-take e s k 0 (omega arith)) (b.none k (omega arith));
-            };
-        inside = h;
-      }
-
-  pub line_none : e ≡ length s → (i : ℕ) → LineIs s i → ⊥
-  line_none z i f = unbroken_unended s (take i s) (drop (i + 1) s) (λ k g. b.none k (omega arith)) f.ended
+-- a text of bytes that are no line feeds has no line
+pub line_none : {s : List ℕ} {e : ℕ} → BeforeFeed s e → e ≡ length s → (i : ℕ) → LineIs s i → ⊥
+line_none {s} b z i f = unbroken_unended s (take i s) (drop (i + 1) s) (λ k g. b.none k (omega arith)) f.ended

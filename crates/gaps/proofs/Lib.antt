@@ -1,2 +1,1 @@
-pub mod Gaps
 pub mod Passes

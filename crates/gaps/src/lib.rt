@@ -5,12 +5,19 @@ ghost use Rattle.std.specs.Int.Signed.{mag};
 ghost use Rattle.theory.specs.Limits.{order_limit};
 ghost use Rattle.theory.specs.Table.{Present};
 ghost use Rattle.orders.specs.Places.{ceiling};
-ghost use Rattle.gaps.specs.Steps.{no_gap, Reckonable, Nearer, Lesser, Joining, LookedAt, share, Narrowed, Rising, RisenBy};
+ghost use Rattle.gaps.specs.Steps.{no_gap, Reckonable, Nearer, Lesser, share, Narrowed};
 
-use orders::{ABSENT, ROWS};
+use orders::ABSENT;
 
-// What stands for the gap of a column in which no row of the tree has an order.
-pub const NO_GAP: u32 = 4294967295;
+mod raised;
+mod tree;
+
+pub use raised::Raised;
+pub use tree::Tree;
+
+// What stands for the gap of a column in which no row of the tree has an order. It stays a number among the gaps: an array of Option
+// would be twice as large.
+pub const NO_GAP: u32 = u32::MAX;
 
 // How far a present raised order is below its column's head. Rules out every other number.
 fn gap(order: i16, addition: u32, head: i32) -> u32
@@ -21,7 +28,7 @@ fn gap(order: i16, addition: u32, head: i32) -> u32
 }
 
 // A way into a column: its gap, and the row that gives it.
-#[derive(Drop)]
+#[derive(Clone, Copy)]
 pub struct Way {
     pub gap: u32,
     pub giver: usize,
@@ -43,7 +50,7 @@ fn nearer(way: Way, order: i16, addition: u32, head: i32, row: usize) -> Way
 }
 
 // The least gap of the columns looked at, and its column.
-#[derive(Drop)]
+#[derive(Clone, Copy)]
 pub struct LeastGap {
     pub gap: u32,
     pub column: usize,
@@ -56,63 +63,11 @@ pub struct LeastGap {
 fn lesser(least: LeastGap, gap: u32, column: usize, unmarked: bool) -> LeastGap
     ensures { Lesser least gap column result }
 {
-    let more: u64 = if unmarked { 0 } else { 1 };
-    if (least.gap as u64) < gap as u64 + more {
+    let more = u64::from(!unmarked);
+    if u64::from(least.gap) < u64::from(gap) + more {
         return least;
     }
     LeastGap { gap, column }
-}
-
-// The least gap of the unreached columns, when one more row has joined the tree and the ways into them have taken it in. By the marks
-// `rows` an unmarked column goes before a marked one with the same gap, which only saves time and is not promised. Rules out a column
-// passed over, and a way into a reached column changed.
-pub fn look(
-    table: &[i16],
-    n: usize,
-    row: usize,
-    additions: &[u32; ROWS],
-    heads: &[i32; ROWS],
-    reached: &[bool; ROWS],
-    rows: &[usize; ROWS],
-    gaps: &mut [u32; ROWS],
-    givers: &mut [usize; ROWS],
-) -> LeastGap
-    requires { Joining table.now n row additions.now heads.now gaps.old givers.old }
-    ensures { LookedAt
-        table.now
-        n
-        n
-        row
-        additions.now
-        heads.now
-        reached.now
-        gaps.old
-        givers.old
-        gaps.new
-        givers.new
-        result }
-{
-    let mut least = LeastGap {
-        gap: NO_GAP,
-        column: 0,
-    };
-    let addition = additions[row];
-    let mut j = 0;
-    while j < n {
-        if !reached[j] {
-            let order = orders::place(table, n, row, j);
-            let old = Way {
-                gap: gaps[j],
-                giver: givers[j],
-            };
-            let way = nearer(old, order, addition, heads[j], row);
-            gaps[j] = way.gap;
-            givers[j] = way.giver;
-            least = lesser(least, way.gap, j, n <= rows[j]);
-        }
-        j += 1;
-    }
-    least
 }
 
 // What a row or a column gets of a rise: all of it in the tree, else nothing. Rules out a rise of what is outside the tree.
@@ -136,40 +91,4 @@ fn narrowed(gap: u32, rise: u32) -> u32
     ensures { Narrowed rise gap result }
 {
     if gap == NO_GAP { gap } else { gap - rise }
-}
-
-// The tree rises: its rows and the reached columns are raised, and the gaps narrowed. Rules out a row or a column of the tree left
-// behind, and one outside raised with it.
-pub fn rise_by(
-    n: usize,
-    rise: u32,
-    tree: &[bool; ROWS],
-    reached: &[bool; ROWS],
-    additions: &mut [u32; ROWS],
-    heads: &mut [i32; ROWS],
-    gaps: &mut [u32; ROWS],
-)
-    requires { Rising n rise additions.old heads.old gaps.old }
-    ensures { RisenBy
-        n
-        rise
-        tree.now
-        reached.now
-        additions.old
-        heads.old
-        gaps.old
-        additions.new
-        heads.new
-        gaps.new }
-{
-    if rise == 0 {
-        return;
-    }
-    let mut i = 0;
-    while i < n {
-        additions[i] = additions[i] + share(rise, tree[i]);
-        heads[i] = lift(heads[i], share(rise, reached[i]));
-        gaps[i] = narrowed(gaps[i], rise);
-        i += 1;
-    }
 }

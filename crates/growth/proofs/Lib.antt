@@ -1,5 +1,5 @@
 pub mod Growth
 pub mod Flipping
 pub mod Insertion
-pub mod Heads
 pub mod Inserting
+pub mod Heads

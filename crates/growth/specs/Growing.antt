@@ -1,11 +1,16 @@
 -- How far the growing has come between two insertions.
-use Rattle.std.specs.Prelude.{◌≡◌, Bool, true, false, List, ℕ, ◌+◌, ◌*◌, ◌≤◌, ◌<◌, T, ℤ, ◌≤ℤ◌}
+use Rattle.std.specs.Prelude.{◌≡◌, Bool, false, List, ℕ, ◌+◌, ◌*◌, ◌≤◌, ◌<◌, T, ℤ, ◌≤ℤ◌, Option, MatchOption}
 use Rattle.theory.specs.Limits.{row_limit, order_limit, addition_limit}
-use Rattle.theory.specs.Lists.{nums, ints}
+use Rattle.theory.specs.Lists.{nums, ints, flags}
 use Rattle.theory.specs.Table.{Present, entry, WithinLimit}
 use Rattle.theory.specs.Canon.{AtMost, NoTransversal, raised, Canon, Head, Heads}
 use Rattle.orders.specs.Places.{Square}
 use Rattle.orders.specs.Held.{Long}
+use Rattle.orders.specs.declared.marks.Marked.{Marked}
+use Rattle.gaps.specs.declared.tree.Tree.{Tree}
+use Rattle.gaps.specs.Steps.{no_gap}
+use Rattle.gaps.specs.declared.raised.Raised.{Raised}
+use Rattle.growth.specs.declared.sapling.Sapling.{Sapling}
 
 -- what one insertion adds at most to the largest addition
 abbrev pub insertion_rise : ℕ
@@ -53,68 +58,61 @@ module _ (n : ℕ) (a : ℕ → ℕ → ℤ) where
         → (giver (κ i) < n) × T (tree (giver (κ i))) × Tight l h (giver (κ i)) (κ i) × (rank (giver (κ i)) < rank i)
 
 -- the same of the arrays of the code
-abbrev pub FreeIn : List ℤ → ℕ → ℕ → List ℕ → List ℤ → List ℕ → ℕ → Type 0
-FreeIn t n s l h row_of j = Free n (entry t n) s (nums l) (ints h) (nums row_of) j
+abbrev pub FreeIn : List ℤ → ℕ → ℕ → Sapling → ℕ → Type 0
+FreeIn t n s g j = (j < n) × Free n (entry t n) s (nums g.raised.additions) (ints g.raised.heads) (nums g.marks.rows) j
 
 -- some way back
-pub record SomeWay (s end : ℕ) (givers row_of column_of : List ℕ) : Type 0 where
+pub record SomeWay (s end : ℕ) (givers : List ℕ) (m : Marked) : Type 0 where
   pub n : ℕ
   pub a : ℕ → ℕ → ℤ
   pub l : ℕ → ℕ
   pub h : ℕ → ℤ
-  pub way : WayBack n a s l h (nums row_of) (nums column_of) (nums givers) end
-  pub long : Long row_of × Long column_of
+  pub way : WayBack n a s l h (nums m.rows) (nums m.columns) (nums givers) end
 
 -- the marks after every such way back was gone: row s has its mark too, and no column has lost its own
-pub record Flipped (s end : ℕ) (givers row_of column_of row_of' column_of' : List ℕ) : Type 0 where
-  pub marking : (n : ℕ) (a : ℕ → ℕ → ℤ) (l : ℕ → ℕ) (h : ℕ → ℤ) → WayBack n a s l h (nums row_of) (nums column_of) (nums givers) end
-      → Marking n a (s + 1) l h (nums row_of') (nums column_of')
-  pub unmarked : (n : ℕ) (a : ℕ → ℕ → ℤ) (l : ℕ → ℕ) (h : ℕ → ℤ) → WayBack n a s l h (nums row_of) (nums column_of) (nums givers) end
-      → (j : ℕ) → j < n → n ≤ nums row_of' j → n ≤ nums row_of j
-  pub long : Long row_of' × Long column_of'
+pub record Flipped (s end : ℕ) (givers : List ℕ) (m m' : Marked) : Type 0 where
+  pub marking : (n : ℕ) (a : ℕ → ℕ → ℤ) (l : ℕ → ℕ) (h : ℕ → ℤ) → WayBack n a s l h (nums m.rows) (nums m.columns) (nums givers) end
+      → Marking n a (s + 1) l h (nums m'.rows) (nums m'.columns)
+  pub unmarked : (n : ℕ) (a : ℕ → ℕ → ℤ) (l : ℕ → ℕ) (h : ℕ → ℤ) → WayBack n a s l h (nums m.rows) (nums m.columns) (nums givers) end
+      → (j : ℕ) → j < n → n ≤ nums m'.rows j → n ≤ nums m.rows j
 
 -- what the code holds when the rows below s are inserted, with no addition beyond what s insertions can make of one handed in
-pub record Ready (t : List ℤ) (n : ℕ) (start : ℕ → ℕ) (s : ℕ) (l : List ℕ) (h : List ℤ) (row_of column_of : List ℕ) : Type 0 where
+pub record Ready (t : List ℤ) (n : ℕ) (start : ℕ → ℕ) (s : ℕ) (r : Raised) (m : Marked) : Type 0 where
   pub square : Square t n
   pub orders : WithinLimit order_limit n (entry t n)
   pub handed_in : (i : ℕ) → i < n → start i ≤ addition_limit
-  pub growing : Growing n (entry t n) start s (nums l) (ints h) (nums row_of) (nums column_of)
-  pub top : (i : ℕ) → i < n → nums l i ≤ addition_limit + s * insertion_rise
+  pub growing : Growing n (entry t n) start s (nums r.additions) (ints r.heads) (nums m.rows) (nums m.columns)
+  pub top : (i : ℕ) → i < n → nums r.additions i ≤ addition_limit + s * insertion_rise
 
 -- ready to insert row s, from some start
-pub record SomeReady (t : List ℤ) (n s : ℕ) (l : List ℕ) (h : List ℤ) (row_of column_of : List ℕ) : Type 0 where
-  pub inside : s < n
+pub record SomeReady (t : List ℤ) (n s : ℕ) (g : Sapling) : Type 0 where
   pub start : ℕ → ℕ
-  pub ready : Ready t n start s l h row_of column_of
-  pub long : Long l × Long h × Long row_of × Long column_of
+  pub ready : Ready t n start s g.raised g.marks
 
--- the same, with some columns of the rows
-pub record SomeColumns (t : List ℤ) (n s : ℕ) (l : List ℕ) (h : List ℤ) (row_of : List ℕ) : Type 0 where
-  pub column_of : List ℕ
-  pub ready : SomeReady t n s l h row_of column_of
+-- a tree with no row yet
+pub record Bare (w : Tree) : Type 0 where
+  pub rows : (i : ℕ) → i < row_limit → flags w.rows i ≡ false
+  pub reached : (j : ℕ) → j < row_limit → flags w.reached j ≡ false
+  pub gaps : (j : ℕ) → j < row_limit → nums w.gaps j ≡ no_gap
 
 -- the additions and the heads have risen so far that there is a way back from the column `end` to row s
-pub record Meeting (t : List ℤ) (n : ℕ) (start : ℕ → ℕ) (s : ℕ) (l : List ℕ) (h : List ℤ) (row_of column_of givers : List ℕ) (end : ℕ) : Type 0 where
-  pub growing : Growing n (entry t n) start s (nums l) (ints h) (nums row_of) (nums column_of)
-  pub way : WayBack n (entry t n) s (nums l) (ints h) (nums row_of) (nums column_of) (nums givers) end
-  pub top : (i : ℕ) → i < n → nums l i ≤ addition_limit + (s + 1) * insertion_rise
+pub record Meeting (t : List ℤ) (n : ℕ) (start : ℕ → ℕ) (s : ℕ) (r : Raised) (m : Marked) (givers : List ℕ) (end : ℕ) : Type 0 where
+  pub growing : Growing n (entry t n) start s (nums r.additions) (ints r.heads) (nums m.rows) (nums m.columns)
+  pub way : WayBack n (entry t n) s (nums r.additions) (ints r.heads) (nums m.rows) (nums m.columns) (nums givers) end
+  pub top : (i : ℕ) → i < n → nums r.additions i ≤ addition_limit + (s + 1) * insertion_rise
 
--- such a column is met, from whatever start and with whatever columns of the rows; or there is no complete transversal
-pub record Met (t : List ℤ) (n s : ℕ) (l : List ℕ) (h : List ℤ) (row_of : List ℕ) (end : ℕ) (l' : List ℕ) (h' : List ℤ) (givers : List ℕ) : Type 0 where
-  pub meets : end < n → (start : ℕ → ℕ) (column_of : List ℕ) → Ready t n start s l h row_of column_of
-      → Meeting t n start s l' h' row_of column_of givers end
-  pub none : n ≤ end → NoTransversal n (entry t n)
-  pub long : Long l' × Long h'
+-- such a column is met, from whatever start; or there is no complete transversal
+abbrev pub Met : List ℤ → ℕ → ℕ → Sapling → Sapling → List ℕ → Option ℕ → Type 0
+Met t n s g g' givers e =
+    MatchOption e (NoTransversal n (entry t n))
+    (λ end. (start : ℕ → ℕ) → Ready t n start s g.raised g.marks → Meeting t n start s g'.raised g'.marks givers end)
 
--- row s is inserted, from whatever start; or there is no complete transversal
-pub record Inserted (t : List ℤ) (n s : ℕ) (l : List ℕ) (h : List ℤ) (row_of column_of : List ℕ) (found : Bool)
-    (l' : List ℕ) (h' : List ℤ) (row_of' column_of' : List ℕ) : Type 0 where
-  pub ready : found ≡ true → (start : ℕ → ℕ) → Ready t n start s l h row_of column_of → Ready t n start (s + 1) l' h' row_of' column_of'
-  pub none : found ≡ false → NoTransversal n (entry t n)
-  pub long : Long l' × Long h' × Long row_of' × Long column_of'
+-- the rows from s on and below s' are inserted, from whatever start; or there is no complete transversal
+abbrev pub Inserted : List ℤ → ℕ → ℕ → ℕ → Sapling → Sapling → Option (Unit {0}) → Type 0
+Inserted t n s s' g g' r =
+    MatchOption r (NoTransversal n (entry t n))
+    (λ x. (start : ℕ → ℕ) → Ready t n start s g.raised g.marks → Ready t n start s' g'.raised g'.marks)
 
 -- the heads of all columns under the start; or a column has no order, and so there is no complete transversal
-pub record FirstOf (t : List ℤ) (n : ℕ) (start : List ℕ) (found : Bool) (h : List ℤ) : Type 0 where
-  pub heads : found ≡ true → Heads n (entry t n) (nums start) (ints h)
-  pub none : found ≡ false → NoTransversal n (entry t n)
-  pub long : Long h
+abbrev pub FirstOf : List ℤ → ℕ → List ℕ → Option (List ℤ) → Type 0
+FirstOf t n start r = MatchOption r (NoTransversal n (entry t n)) (λ h. Long h × Heads n (entry t n) (nums start) (ints h))

@@ -1,12 +1,13 @@
 -- What holds where a refusal does not apply, and the first three refusals, one test after the other. Assumes nothing.
 use mathlib.Core.Path.{◌≡◌, refl, sym}
 use mathlib.Core.Logic.{◌⊎◌, inl, inr}
-use mathlib.Core.List.{List, []}
-use Prim.Native.Nat.{ℕ, ◌+◌, ◌*◌, ◌≤◌, ◌<◌}
+use mathlib.Core.List.{List, [], ◌∷◌}
+use Prim.Native.Nat.{ℕ, zero, suc, ◌+◌, ◌*◌, ◌≤◌, ◌<◌}
 use native.Mathlib.Decide.{ℕ_discrete, dec_le, dec_lt}
 use native.Mathlib.Omega.{arith}
 use lib.IntN.{ℤ, pos, ℤ_discrete}
 use lib.ListN.{length, get_or}
+use Rattle.std.specs.Prelude.{Ok, Err}
 use Rattle.theory.specs.Limits.{row_limit, order_limit, addition_limit}
 use Rattle.theory.specs.Lists.{nums, StarList}
 use Rattle.theory.specs.Table.{absent, Present, Order, Entries}
@@ -14,12 +15,11 @@ use Rattle.theory.proofs.Pigeonhole.{exists, dec_both, dec_not}
 use Rattle.theory.proofs.Signed.{up, dn, signed}
 use Rattle.orders.specs.Refusals.{number_of, values_of, First, numbers, Rising, WrongLength, RightLengths}
 use Rattle.orders.specs.declared.Refusal.{Refusal}
-use Rattle.orders.specs.declared.Refusal.TheVariants.{Size, Length, Entry}
+use Rattle.orders.specs.declared.Refusal.TheVariants.{Length, Entry}
 use Rattle.orders.proofs.Refusals.{right_not_wrong}
 use Rattle.handed.specs.Conditions.{OutOfSize, each, slices, WrongEntry, TooLarge, WrongStars, under_one, over_size, twice}
 use Rattle.handed.specs.Conditions.{basic, table_tests, canon_tests, heads_tests, star_tests}
 use Rattle.handed.specs.Handed.{Basic}
-use Rattle.handed.specs.declared.FirstTests.TheVariants.{Passed, Refused}
 
 -- a size that passed both tests
 pub in_size : {n : ℕ} → (n ≡ 0 → ⊥) → n ≤ row_limit → OutOfSize n → ⊥
@@ -109,27 +109,36 @@ star_rises n t given ks = omega arith
 -- ---- the first three, one test after the other
 module _ {n : ℕ} {t : List ℤ} {ks : List ℕ} where
   -- a refusal that is the first that applies
-  refused_by : (q : Refusal) → First (basic n t ks []) (number_of q) → values_of q ≡ [] → Basic n t ks (Refused q)
-  refused_by q low bare =
-      record {
-        passed = λ e. absurd (let z : ◌≡◌ {A = ℕ} 0 1 = cc in omega arith);
-        refused = λ p e. let h : q ≡ p = cc in rw (sym h) (low, bare);
-      }
-
-  pub basic_size : OutOfSize n → Basic n t ks (Refused Size)
-  basic_size s = refused_by Size (inl (s, refl)) refl
+  refused_by : (q : Refusal) → First (basic n t ks []) (number_of q) → values_of q ≡ [] → Basic n t ks (Err q)
+  refused_by q low bare = record { passed = λ e. cc; refused = λ p e. let h : q ≡ p = cc in rw (sym h) (low, bare) }
 
   module _ (ne : n ≡ 0 → ⊥) (le : n ≤ row_limit) where
-    pub basic_lengths : WrongLength (slices n t ks) → Basic n t ks (Refused Length)
+    pub basic_lengths : WrongLength (slices n t ks) → Basic n t ks (Err Length)
     basic_lengths w = refused_by Length (inr (in_size ne le, inl (w, refl))) refl
 
     module _ (sq : length t ≡ n * n) (f : RightLengths (each n ks)) where
-      pub basic_entries : WrongEntry t → Basic n t ks (Refused Entry)
+      pub basic_entries : WrongEntry t → Basic n t ks (Err Entry)
       basic_entries w = refused_by Entry (inr (in_size ne le, inr (right_not_wrong (slices n t ks) (sq, f), inl (w, refl)))) refl
 
-      pub basic_sound : Entries order_limit t → Basic n t ks Passed
+      pub basic_sound : Entries order_limit t → Basic n t ks (Ok tt)
       basic_sound all =
           record {
             passed = λ e. record { in_size = in_size ne le; square = record { small = le; square = sq }; fitting = f; entries = all };
-            refused = λ q e. absurd (let z : ◌≡◌ {A = ℕ} 0 1 = cc in omega arith);
+            refused = λ q e. cc;
           }
+
+-- ---- the lengths that are to be n: what their test tells
+abbrev pub AllWanted : ℕ → List ℕ → Type 0
+AllWanted n ks = (x : ℕ) → x < length ks → get_or ks x 0 ≡ n
+
+pub each_right : (n : ℕ) (ks : List ℕ) → AllWanted n ks → RightLengths (each n ks)
+each_right n [] f = tt
+each_right n (k ∷ ks) f = (f 0 (omega arith), each_right n ks (λ x h. f (suc x) (omega arith)))
+
+pub each_wrong : (n : ℕ) (ks : List ℕ) → (AllWanted n ks → ⊥) → WrongLength (each n ks)
+each_wrong n [] f = absurd (f (λ x h. absurd (omega arith)))
+each_wrong n (k ∷ ks) f = elim (ℕ_discrete k n) [ yes e ↦ inr (each_wrong n ks (λ all. f (also e all))) | no ne ↦ inl ne ]
+  where
+    also : k ≡ n → AllWanted n ks → AllWanted n (k ∷ ks)
+    also e all zero h = e
+    also e all (suc x) h = all x (omega arith)

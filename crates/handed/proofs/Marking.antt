@@ -1,96 +1,63 @@
 -- The marks of a list of stars, one row after the other. Assumes nothing.
-use mathlib.Core.Path.{◌≡◌, refl, sym, ◌∙◌, ap}
-use mathlib.Core.Logic.{◌≢◌}
-use mathlib.Core.Bool.{true, false}
+use mathlib.Core.Path.{◌≡◌, sym, ◌∙◌, ap}
+use mathlib.Core.Bool.{Bool, true, false}
 use mathlib.Core.List.{List}
-use Prim.Native.Nat.{ℕ, zero, suc, ◌+◌, ◌-◌, ◌≤◌, ◌<◌}
-use native.Mathlib.Decide.{ℕ_discrete}
+use Prim.Native.Nat.{ℕ, ◌+◌, ◌-◌, ◌≤◌, ◌<◌}
 use native.Mathlib.Omega.{arith}
-use borrow.Author.Count.{below_more}
-use lib.ListN.{length, set, length-set, replicate, length-replicate}
-use lib.Seq.{get_or-set_same, get_or-set_other}
+use lib.ListN.{length, replicate, length-replicate}
+use Rattle.std.specs.Prelude.{Some, None}
 use Rattle.theory.specs.Limits.{row_limit}
-use Rattle.theory.specs.Lists.{nums, StarList}
+use Rattle.theory.specs.Lists.{nums, flags, StarList}
 use Rattle.theory.proofs.Pigeonhole.{onto}
 use Rattle.orders.specs.Places.{Marks}
 use Rattle.orders.proofs.Entries.{clash}
+use Rattle.orders.proofs.Flags.{all_unset}
 use Rattle.handed.specs.Conditions.{WrongStars, under_one, over_size, twice}
-use Rattle.handed.specs.Handed.{ListedAs}
+use Rattle.handed.specs.Handed.{Listed, ListedAs}
 
--- The first k stars stand and are marked both ways; a column whose mark is no longer the empty one has the mark of one of these rows.
-pub record Marked (n k : ℕ) (s row_of column_of : List ℕ) : Type 0 where
+-- The first k stars stand and are marked both ways; a column that is taken has the mark of one of these rows.
+pub record MarkedTo (n k : ℕ) (s row_of column_of : List ℕ) (taken : List Bool) : Type 0 where
   pub from_one : (i : ℕ) → i < k → 1 ≤ nums s i
   pub to_size : (i : ℕ) → i < k → nums s i ≤ n
   pub column : (i : ℕ) → i < k → nums column_of i ≡ nums s i - 1
   pub back : (i : ℕ) → i < k → nums row_of (nums s i - 1) ≡ i
-  pub taken : (j : ℕ) → j < n → nums row_of j ≢ row_limit → (nums row_of j < k) × (nums s (nums row_of j) ≡ j + 1)
+  pub is_set : (i : ℕ) → i < k → flags taken (nums s i - 1) ≡ true
+  pub row_marked : (j : ℕ) → flags taken j ≡ true → (nums row_of j < k) × (nums s (nums row_of j) ≡ j + 1)
   pub rows_long : length row_of ≡ row_limit
   pub columns_long : length column_of ≡ row_limit
+  pub taken_long : length taken ≡ row_limit
 
-same_at : (m i v : ℕ) → i < m → nums (replicate m v) i ≡ v
-same_at zero i v h = absurd (omega arith)
-same_at (suc m) zero v h = refl
-same_at (suc m) (suc i) v h = same_at m i v (omega arith)
-
-pub marked_start : (n : ℕ) (s : List ℕ) → n ≤ row_limit → Marked n 0 s (replicate row_limit row_limit) (replicate row_limit 0)
-marked_start n s h =
+pub marked_start : (n : ℕ) (s : List ℕ) → MarkedTo n 0 s (replicate row_limit 0) (replicate row_limit 0) (replicate row_limit false)
+marked_start n s =
     record {
       from_one = λ i hi. absurd (omega arith);
       to_size = λ i hi. absurd (omega arith);
       column = λ i hi. absurd (omega arith);
       back = λ i hi. absurd (omega arith);
-      taken = λ j hj ne. absurd (ne (same_at row_limit j row_limit (omega arith)));
-      rows_long = length-replicate {A = ℕ} row_limit row_limit;
+      is_set = λ i hi. absurd (omega arith);
+      row_marked = λ j e. clash e (all_unset row_limit j);
+      rows_long = length-replicate {A = ℕ} row_limit 0;
       columns_long = length-replicate {A = ℕ} row_limit 0;
+      taken_long = length-replicate {A = Bool} row_limit false;
     }
 
-module _ {n k : ℕ} {s row_of column_of : List ℕ} (m : Marked n k s row_of column_of) (small : n ≤ row_limit) (hk : k < n) where
-  -- the star's column is free, so no earlier row has it
-  pub marked_more : 1 ≤ nums s k → nums s k ≤ n → nums row_of (nums s k - 1) ≡ row_limit
-      → Marked n (k + 1) s (set row_of (nums s k - 1) k) (set column_of k (nums s k - 1))
-  marked_more one size free =
-      record {
-        from_one = below_more (λ i. 1 ≤ nums s i) k m.from_one one;
-        to_size = below_more (λ i. nums s i ≤ n) k m.to_size size;
-        column = λ i hi. column i hi (ℕ_discrete i k);
-        back = λ i hi. back i hi (ℕ_discrete i k);
-        taken = λ j hj ne. taken j hj ne (ℕ_discrete j (nums s k - 1));
-        rows_long = length-set row_of (nums s k - 1) k ∙ m.rows_long;
-        columns_long = length-set column_of k (nums s k - 1) ∙ m.columns_long;
-      }
-    where
-      column : (i : ℕ) → i < k + 1 → Dec (i ≡ k) → nums (set column_of k (nums s k - 1)) i ≡ nums s i - 1
-      column i hi (yes e) = rw (e, get_or-set_same column_of k (nums s k - 1) 0 (omega (arith, m.columns_long)))
-      column i hi (no ne) = get_or-set_other column_of k i (nums s k - 1) 0 ne ∙ m.column i (omega arith)
+-- a star outside 1 to n, or with the column of an earlier row
+module _ {n k : ℕ} {s row_of column_of : List ℕ} {taken : List Bool} (m : MarkedTo n k s row_of column_of taken) (hk : k < n)
+    (long : length s ≡ n) where
+  pub marked_low : nums s k ≡ 0 → WrongStars n s
+  marked_low e = under_one k (omega arith) (omega arith)
 
-      back : (i : ℕ) → i < k + 1 → Dec (i ≡ k) → nums (set row_of (nums s k - 1) k) (nums s i - 1) ≡ i
-      back i hi (yes e) = rw (e, get_or-set_same row_of (nums s k - 1) k 0 (omega (arith, m.rows_long)))
-      back i hi (no ne) =
-          let other : nums s i - 1 ≢ nums s k - 1 = λ e. omega (arith, m.back i (omega arith), ap (nums row_of) e, free) in
-          get_or-set_other row_of (nums s k - 1) (nums s i - 1) k 0 other ∙ m.back i (omega arith)
+  pub marked_high : n < nums s k → WrongStars n s
+  marked_high h = over_size k (omega arith) h
 
-      taken : (j : ℕ) → j < n → nums (set row_of (nums s k - 1) k) j ≢ row_limit → Dec (j ≡ nums s k - 1)
-          → (nums (set row_of (nums s k - 1) k) j < k + 1) × (nums s (nums (set row_of (nums s k - 1) k) j) ≡ j + 1)
-      taken j hj ne (yes e) = rw (e, get_or-set_same row_of (nums s k - 1) k 0 (omega (arith, m.rows_long))) (omega arith, omega arith)
-      taken j hj ne (no d) =
-          let (lt, eq) = m.taken j hj (λ q. ne (get_or-set_other row_of (nums s k - 1) j k 0 d ∙ q)) in
-          rw (get_or-set_other row_of (nums s k - 1) j k 0 d) (omega arith, eq)
-
-  -- a star outside 1 to n, or with the column of an earlier row
-  module _ (long : length s ≡ n) where
-    pub marked_low : nums s k ≡ 0 → WrongStars n s
-    marked_low e = under_one k (omega arith) (omega arith)
-
-    pub marked_high : n < nums s k → WrongStars n s
-    marked_high h = over_size k (omega arith) h
-
-    pub marked_twice : 1 ≤ nums s k → nums s k ≤ n → nums row_of (nums s k - 1) ≢ row_limit → WrongStars n s
-    marked_twice one size ne =
-        let (lt, eq) = m.taken (nums s k - 1) (omega arith) ne in
-        twice (nums row_of (nums s k - 1)) k lt (omega arith) (omega arith)
+  pub marked_twice : 1 ≤ nums s k → flags taken (nums s k - 1) ≡ true → WrongStars n s
+  marked_twice one t =
+      let (lt, eq) = m.row_marked (nums s k - 1) t in
+      twice (nums row_of (nums s k - 1)) k lt (omega arith) (omega arith)
 
 -- All stars stand. A column's row is found by the pigeonhole: the columns of the n rows are apart.
-module _ {n : ℕ} {s row_of column_of : List ℕ} (long : length s ≡ n) (m : Marked n n s row_of column_of) where
+module _ {n : ℕ} {s row_of column_of : List ℕ} {taken : List Bool} (long : length s ≡ n)
+    (m : MarkedTo n n s row_of column_of taken) where
   marked_list : StarList n s
   marked_list =
       record {
@@ -124,11 +91,16 @@ module _ {n : ℕ} {s row_of column_of : List ℕ} (long : length s ≡ n) (m : 
       forth : (j : ℕ) → (i : ℕ) × (i < n) × (nums column_of i ≡ j) → nums column_of (nums row_of j) ≡ j
       forth j (i, hi, e) = ap (λ (x : ℕ). nums column_of (nums row_of x)) (sym e) ∙ ap (nums column_of) (back i hi) ∙ e
 
-  pub marked_end : ListedAs n s (record { stands = true; rows = row_of; columns = column_of })
+  pub marked_end : ListedAs n s (Some (record { rows = row_of; columns = column_of }))
   marked_end =
-      record { star_list = λ e. marked_list; marks = λ e. marked_marks; same = λ e i hi. m.column i hi; wrong = λ e. clash refl e }
+      record {
+        listed = λ p e. let h : record { rows = row_of; columns = column_of } ≡ p = cc in rw (sym h) all_marked;
+        wrong = λ e. cc;
+      }
+    where
+      all_marked : Listed n s (record { rows = row_of; columns = column_of })
+      all_marked = record { star_list = marked_list; marks = marked_marks; same = λ i hi. m.column i hi }
 
 -- a list that does not stand
-pub marked_wrong : {n : ℕ} {s row_of column_of : List ℕ} → WrongStars n s
-    → ListedAs n s (record { stands = false; rows = row_of; columns = column_of })
-marked_wrong f = record { star_list = λ e. clash e refl; marks = λ e. clash e refl; same = λ e. clash e refl; wrong = λ e. f }
+pub marked_wrong : {n : ℕ} {s : List ℕ} → WrongStars n s → ListedAs n s None
+marked_wrong f = record { listed = λ p e. cc; wrong = λ e. f }

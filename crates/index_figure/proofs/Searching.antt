@@ -1,42 +1,17 @@
--- What the tests of an entry and of the lists tell. Assumes nothing.
-use mathlib.Core.Path.{◌≡◌, ap}
+-- What the tests of the lists tell. Assumes nothing.
+use mathlib.Core.Path.{◌≡◌}
 use mathlib.Core.List.{List}
-use mathlib.Core.Bool.{false}
 use Prim.Native.Nat.{ℕ, ◌+◌, ◌*◌, ◌/◌, ◌%◌, ◌≤◌, ◌<◌}
 use native.Mathlib.Omega.{arith}
-use lib.Dec.{eqb}
-use lib.IntN.{ℤ, pos}
+use lib.IntN.{ℤ}
 use lib.ListN.{length}
-use lib.Signed.{lt_z}
-use borrow.Author.Tests.{eqb-true, eqb-false}
-use mir.Syntax.{w16, w32}
-use mir.Val.{SFits, of_z}
 use Rattle.theory.specs.Lists.{nums}
-use Rattle.theory.specs.Table.{Negative, entry}
+use Rattle.theory.specs.Table.{entry}
 use Rattle.theory.specs.Canon.{SomeHeadZero, SomeNegative, plus_one, alone, follows, keeps}
-use Rattle.theory.proofs.Signed.{signed}
 use Rattle.theory.proofs.Index.{index_low, head_zero_from, head_zero_at}
-use Rattle.orders.specs.Tested.{Tells}
 use Rattle.orders.specs.Places.{ceiling}
-use Rattle.orders.proofs.Entries.{tells_no, absent_bits, present_bits, bits_same}
 use Rattle.orders.proofs.Places.{cell, row_inside, col_inside, row_col}
 use Rattle.index_figure.specs.Parts.{Largest, NegativeIn, ZeroIn, Beyond, kept, one, none, HeadsKnown, IndexOf}
-
--- the two ways through the test of one entry
-pub negative_absent : (v : ℤ) → SFits w16 v → of_z w16 v ≡ 32768 → Tells false (Negative v)
-negative_absent v f e = tells_no (λ m. m.0 (absent_bits v f e))
-
-pub negative_present : (v : ℤ) → (of_z w16 v ≡ 32768 → ⊥) → Tells (lt_z v (pos 0)) (Negative v)
-negative_present v ne =
-    record { holds = λ e. (present_bits v ne, omega (arith, signed)); fails = λ e m. omega (arith, signed, m.1) }
-
--- the test of one head
-pub zero_told : (v : ℤ) → SFits w32 v → Tells (eqb (of_z w32 v) 0) (v ≡ pos 0)
-zero_told v f =
-    record {
-      holds = λ same. bits_same f (record { sfits = omega arith }) (eqb-true (of_z w32 v) 0 same);
-      fails = λ other e. eqb-false (of_z w32 v) 0 other (ap (of_z w32) e);
-    }
 
 as_largest : {m r : ℕ} → r ≡ 0 → m + r ≡ m
 as_largest e = omega arith

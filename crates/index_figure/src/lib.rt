@@ -12,51 +12,28 @@ fn largest(adds: &[u32]) -> u32
     requires { 1 ≤ length adds.now }
     ensures { Largest adds.now result }
 {
-    let mut most = adds[0];
-    let mut i = 1;
-    while i < adds.len() {
-        if most < adds[i] {
-            most = adds[i];
-        }
-        i += 1;
-    }
-    most
+    adds.iter().copied().max().unwrap()
 }
 
 // Is an entry a negative order? Rules out an absent place, or 0, taken for one.
 fn negative(v: i16) -> bool
     ensures { Tells result (Negative v) }
 {
-    if v == ABSENT {
-        return false;
-    }
-    v < 0
+    v != ABSENT && v < 0
 }
 
-// Has a table a negative order? Every entry is tested, with one end, as in `orders::entries_stand`. Rules out an entry passed over.
+// Has a table a negative order? Rules out an entry passed over.
 fn some_negative(table: &[i16]) -> bool
     ensures { Tells result (NegativeIn table.now) }
 {
-    let mut some = false;
-    let mut k = 0;
-    while k < table.len() {
-        some = some | negative(table[k]);
-        k += 1;
-    }
-    some
+    table.iter().any(|v| negative(*v))
 }
 
 // Is some head 0? Rules out another number than 0, and a head passed over.
 fn some_zero(heads: &[i32]) -> bool
     ensures { Tells result (ZeroIn heads.now) }
 {
-    let mut some = false;
-    let mut j = 0;
-    while j < heads.len() {
-        some = some | (heads[j] == 0);
-        j += 1;
-    }
-    some
+    heads.contains(&0)
 }
 
 // What the index figure has beyond the largest addition. Rules out 1 where no head is 0 or an order is negative, and 0 elsewhere.

@@ -1,14 +1,17 @@
 -- Labels in the places of a buffer. Assumes nothing.
 use mathlib.Core.Path.{◌≡◌, refl, sym, ap, subst⁻¹, ◌∙◌}
-use mathlib.Core.Bool.{Bool, true, false, cond}
+use mathlib.Core.Bool.{Bool, true, false, cond, not}
 use mathlib.Core.List.{List, [], ◌∷◌, ◌++◌, append-nil}
 use Prim.Native.Nat.{ℕ, zero, suc, ◌+◌, ◌-◌, ◌*◌, ◌<◌, ◌≤◌}
 use native.Mathlib.Omega.{arith}
 use native.Mathlib.Numerals.{add-one}
-use borrow.Author.Tests.{eq-eqb, ne_eqb}
+use borrow.Author.Tests.{ne_eqb}
 use lib.Dec.{eqb}
-use lib.ListN.{length, get_or, take, drop, replicate, drop_of_length-le, length-drop, length-append, take-append-drop, length-replicate, get_or-replicate}
-use lib.Seq.{drop-drop, drop-cons, ext_get_or, get_or-drop, get_or-append-add, length-take-le}
+use lib.ListN.{length, get_or, take, drop, replicate, length-drop, length-append, length-take, take-append-drop, length-replicate, get_or-replicate}
+use lib.Seq.{drop-drop, ext_get_or, get_or-drop, get_or-append-add, length-take-le}
+use Rattle.std.specs.List.{prefix_len}
+use Rattle.std.proofs.lemmas.List.Sums.{take_while-cons}
+use Rattle.std.proofs.lemmas.List.Folds.{length-prefix_len}
 use Rattle.sheet.specs.Text.{Each, ended}
 use Rattle.orders.specs.Tested.{Tells}
 use native.Mathlib.Decide.{ℕ_discrete}
@@ -19,38 +22,23 @@ use Rattle.orders.proofs.Entries.{clash}
 use Rattle.labels.specs.Parts.{label_of, labels_of, SlotStands, BufferStands, LabelsTold}
 use Rattle.labels.specs.Wrong.{WrongIn, malformed, repeated}
 
-le_by : (t : Bool) (b : ℕ) (l s : List ℕ) → length l ≤ length s → length (cond t [] (b ∷ l)) ≤ suc (length s)
-le_by true b l s h = omega arith
-le_by false b l s h = omega arith
+-- the label of a place that begins with the byte b
+label_cons : (b : ℕ) (s : List ℕ) → label_of (b ∷ s) ≡ cond (eqb b 0) [] (b ∷ label_of s)
+unfolding label_of
+label_cons b s = take_while-cons (λ x. not (eqb x 0)) b s ∙ by (eqb b 0)
+  where
+    by : (t : Bool) → cond (not t) (b ∷ label_of s) [] ≡ cond t [] (b ∷ label_of s)
+    by true = refl
+    by false = refl
 
 -- a label is the front of its place
 pub label_le : (s : List ℕ) → length (label_of s) ≤ length s
 unfolding label_of
-label_le [] = omega arith
-label_le (b ∷ s) = le_by (eqb b 0) b (label_of s) s (label_le s)
-
-take_by : (t : Bool) (b : ℕ) (l s : List ℕ) → take (length l) s ≡ l → take (length (cond t [] (b ∷ l))) (b ∷ s) ≡ cond t [] (b ∷ l)
-take_by true b l s e = refl
-take_by false b l s e = ap (λ x. b ∷ x) e
+label_le s = let n = prefix_len (λ x. not (eqb x 0)) s in omega (arith, length-take n s)
 
 pub label_take : (s : List ℕ) → take (length (label_of s)) s ≡ label_of s
 unfolding label_of
-label_take [] = refl
-label_take (b ∷ s) = take_by (eqb b 0) b (label_of s) s (label_take s)
-
--- the ways through the search for a zero byte
-module _ (s : List ℕ) (i : ℕ) where
-  pub label_end : length s ≤ i → length (label_of (drop i s)) ≡ 0
-  unfolding label_of
-  label_end h = rw (drop_of_length-le s {i = i} h)
-
-  pub label_zero : i < length s → get_or s i 0 ≡ 0 → length (label_of (drop i s)) ≡ 0
-  unfolding label_of
-  label_zero h z = rw (drop-cons s i 0 h, eq-eqb (get_or s i 0) 0 z)
-
-  pub label_more : i < length s → (get_or s i 0 ≡ 0 → ⊥) → length (label_of (drop i s)) ≡ length (label_of (drop (i + 1) s)) + 1
-  unfolding label_of
-  label_more h n = rw (drop-cons s i 0 h, ne_eqb (get_or s i 0) 0 n, add-one, add-one)
+label_take s = ap (λ n. take n s) (length-prefix_len (λ x. not (eqb x 0)) s)
 
 -- the label of a filled place
 pub label_filled : (l : List ℕ) (m : ℕ) → Each (λ b. 1 ≤ b) l → label_of (l ++ replicate m 0) ≡ l
@@ -58,7 +46,8 @@ unfolding label_of
 label_filled [] zero p = refl
 label_filled [] (suc m) p = refl
 label_filled (b ∷ l) m p =
-    rw (ne_eqb b 0 (λ e. omega (arith, p 0 (omega arith)))) (ap (λ x. b ∷ x) (label_filled l m (λ k h. p (suc k) (omega arith))))
+    label_cons b (l ++ replicate m 0)
+    ∙ rw (ne_eqb b 0 (λ e. omega (arith, p 0 (omega arith)))) (ap (λ x. b ∷ x) (label_filled l m (λ k h. p (suc k) (omega arith))))
 
 -- a place that stands is its label, filled up
 pub slot_good : (s : List ℕ) → length s ≡ width → SlotStands s → s ≡ filled (label_of s)
@@ -114,7 +103,7 @@ labels_next (suc k) b =
     (labels_next k (drop width b) ∙ ap (λ x. labels_of k (drop width b) ++ (label_of x ∷ [])) (slot_tail b k))
 
 -- fewer labels have shorter lines
-pub lines_mono : (k n : ℕ) (b : List ℕ) → k ≤ n → length (ended_lines (labels_of k b)) ≤ length (ended_lines (labels_of n b))
+lines_mono : (k n : ℕ) (b : List ℕ) → k ≤ n → length (ended_lines (labels_of k b)) ≤ length (ended_lines (labels_of n b))
 unfolding labels_of ended_lines
 lines_mono zero n b h = omega arith
 lines_mono (suc k) zero b h = absurd (omega arith)
@@ -133,6 +122,17 @@ label_line_next k b =
     ∙ ap ended_lines (labels_next k b)
     ∙ Rattle.sheet.proofs.Orders.ended_append (labels_of k b) (label_of (slot b k) ∷ [])
     ∙ ap (λ x. ended_lines (labels_of k b) ++ x) (Rattle.sheet.proofs.Orders.ended_one (label_of (slot b k)))
+
+-- it has room where all lines do
+pub line_room : (k n : ℕ) (b : List ℕ) → k < n
+    → length (ended_lines (labels_of k b)) + length (ended (label_of (slot b k))) ≤ length (ended_lines (labels_of n b))
+line_room k n b h =
+    omega (
+      arith,
+      ap length (label_line_next k b),
+      length-append (ended_lines (labels_of k b)) (ended (label_of (slot b k))),
+      lines_mono (k + 1) n b (omega arith),
+    )
 
 -- a buffer that stands is the places of its labels
 stands_tail : (n : ℕ) (b : List ℕ) → BufferStands (suc n) b → BufferStands n (drop width b)
@@ -195,9 +195,6 @@ slot_tells s k r e f t =
     }
 
 -- one label more stands in a buffer
-pub buffer_none : (b : List ℕ) → BufferStands 0 b
-buffer_none b = record { forms = λ k h. absurd (omega arith); apart = λ i k g h e. omega arith }
-
 pub buffer_more : (k : ℕ) (b : List ℕ) → width * k + width ≤ length b → BufferStands k b → SlotStands (slot b k) → (Repeated b k → ⊥)
     → BufferStands (k + 1) b
 buffer_more k b h p s n =

@@ -1,12 +1,11 @@
 -- What the functions of this crate tell each other and the writer.
-use Rattle.std.specs.Prelude.{◌≡◌, ◌≢◌, Bool, true, false, cond, List, [], ◌∷◌, ℕ, zero, suc, ◌+◌, ◌≤◌, ◌<◌, eqb, length, get_or, take, drop}
+use Rattle.std.specs.Prelude.{◌≡◌, ◌≢◌, Bool, true, false, not, List, [], ◌∷◌, ℕ, zero, suc, ◌+◌, ◌≤◌, ◌<◌, eqb, length, get_or, take, drop, take_while}
 use Rattle.sheet.specs.Labels.{width, Form, slot}
 use Rattle.labels.specs.Wrong.{WrongIn}
 
 -- the bytes before the first zero byte
 unfoldable pub label_of : List ℕ → List ℕ
-label_of [] = []
-label_of (b ∷ s) = cond (eqb b 0) [] (b ∷ label_of s)
+label_of s = take_while (λ b. not (eqb b 0)) s
 
 -- the labels in the first n places of a buffer
 unfoldable pub labels_of : ℕ → List ℕ → List (List ℕ)

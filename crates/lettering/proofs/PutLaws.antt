@@ -8,8 +8,6 @@ use lib.ListN.{length, get_or, set, take, drop, drop_of_length-le, length-drop, 
 use lib.Seq.{drop-drop, drop_at, take_at, take_all, drop-cons, set_at}
 use Rattle.sheet.specs.Text.{over, text}
 use Rattle.sheet.proofs.Numbers.{text_small, text_large}
-use mir.Syntax.{w64}
-use mir.Val.{Fits}
 use Rattle.lettering.specs.Putting.{Puts}
 
 pub over_length : {A : Type 0} (a o : List A) → length a ≤ length o → length (over a o) ≡ length o
@@ -76,45 +74,51 @@ number_more v o o' k h g p =
     puts_same (text (v / 10) ++ ((48 + v % 10) ∷ [])) (text v) o (set o' k (48 + v % 10)) (k + 1) (sym e)
     (puts_byte (text (v / 10)) o o' k p (48 + v % 10) (omega (arith, ap length e, length-append (text (v / 10)) ((48 + v % 10) ∷ []))))
 
--- the first of two texts fits where both do
-pub first_room : (a b o : List ℕ) → length (a ++ b) ≤ length o → length a ≤ length o
-first_room a b o h = omega (arith, length-append a b)
+-- Of a whole text the front was put into a room that has space for all of it, and the text r comes next. From this a function goes on
+-- that puts one text after the other, each in the tail that those before it left: what the room holds by then, and where its tail begins.
+pub record Begun (whole r o : List ℕ) : Type 0 where
+  pub room : List ℕ
+  pub at : ℕ
+  pub front : List ℕ
+  pub put : Puts front o room at
+  pub parts : front ++ r ≡ whole
+  pub fits : length whole ≤ length o
 
--- A text a was put into a room that has space for the text b behind it too. From this alone a function goes on that lends the tail of
--- the room to the next one, or writes one byte more: so all of them have the same proof.
-pub record FirstPut (a b o o' : List ℕ) (n : ℕ) : Type 0 where
-  pub put : Puts a o o' n
-  pub fits : length (a ++ b) ≤ length o
+abbrev pub begun : {a o o' : List ℕ} {n : ℕ} (r : List ℕ) → length (a ++ r) ≤ length o → Puts a o o' n → Begun (a ++ r) r o
+begun {a} {o} {o'} {n} r h p = record { room = o'; at = n; front = a; put = p; parts = refl; fits = h }
 
-module _ {a b o o' : List ℕ} {n : ℕ} (s : FirstPut a b o o' n) where
-  both_fit : length a + length b ≤ length o
-  both_fit = omega (arith, s.fits, length-append a b)
+module _ {whole r o : List ℕ} (s : Begun whole r o) where
+  rest_fits : length s.front + length r ≤ length o
+  rest_fits = omega (arith, ap length s.parts, s.fits, length-append s.front r)
 
-  -- the tail begins inside the room, and the second text fits it
-  pub tail_inside : n ≤ length o'
-  tail_inside = omega (arith, both_fit, s.put.is_length, puts_length a o o' n s.put (first_room a b o s.fits))
+  pub tail_inside : s.at ≤ length s.room
+  tail_inside = omega (arith, rest_fits, s.put.is_length, puts_length s.front o s.room s.at s.put (omega (arith, rest_fits)))
 
-  pub tail_room : (k : ℕ) → k ≡ length o' - n → length b ≤ length (take k (drop n o'))
-  tail_room k g = left_room a o o' n s.put b k g both_fit
+  -- once the rest is put in the tail too, the whole text is put
+  pub last_put : {ys : List ℕ} {m : ℕ} → Puts r (take (length s.room - s.at) (drop s.at s.room)) ys m
+      → Puts whole o (take s.at s.room ++ (ys ++ drop (length s.room - s.at) (drop s.at s.room))) (s.at + m)
+  last_put {ys} {m} q = puts_same _ _ _ _ _ s.parts (puts_tail s.front o s.room s.at s.put r ys m _ refl q rest_fits)
 
-  -- once it is put there, both are put
-  pub total_fits : {r y : List ℕ} {m : ℕ} → Puts b r y m → Fits w64 (length o) → Fits w64 (n + m)
-  total_fits q f = omega (arith, both_fit, s.put.is_length, q.is_length)
+module _ {whole o : List ℕ} (b r : List ℕ) (s : Begun whole (b ++ r) o) where
+  next_fits : length s.front + length b ≤ length o
+  next_fits = omega (arith, rest_fits s, length-append b r)
 
-  pub both_put : {ys : List ℕ} {m : ℕ} (k : ℕ) → k ≡ length o' - n → Puts b (take k (drop n o')) ys m
-      → Puts (a ++ b) o (take n o' ++ (ys ++ drop k (drop n o'))) (n + m)
-  both_put {ys} {m} k g q = puts_tail a o o' n s.put b ys m k g q both_fit
+  -- the next text has room in the tail
+  pub next_room : length b ≤ length (take (length s.room - s.at) (drop s.at s.room))
+  next_room = left_room s.front o s.room s.at s.put b _ refl next_fits
 
-module _ {a o o' : List ℕ} {n b : ℕ} (s : FirstPut a (b ∷ []) o o' n) where
-  room_for : length a < length o
-  room_for = omega (arith, s.fits, length-append a (b ∷ []))
+  pub both_put : {ys : List ℕ} {m : ℕ} → Puts b (take (length s.room - s.at) (drop s.at s.room)) ys m
+      → Puts (s.front ++ b) o (take s.at s.room ++ (ys ++ drop (length s.room - s.at) (drop s.at s.room))) (s.at + m)
+  both_put {ys} {m} q = puts_tail s.front o s.room s.at s.put b ys m _ refl q next_fits
 
-  -- the same for one byte
-  pub byte_inside : n < length o'
-  byte_inside = omega (arith, room_for, s.put.is_length, puts_length a o o' n s.put (first_room a (b ∷ []) o s.fits))
-
-  pub byte_fits : Fits w64 (length o) → Fits w64 (n + 1)
-  byte_fits f = omega (arith, room_for, s.put.is_length)
-
-  pub byte_put : Puts (a ++ b ∷ []) o (set o' n b) (n + 1)
-  byte_put = puts_byte a o o' n s.put b room_for
+  -- and once it is put there, the one after it comes next
+  abbrev pub next_put : {ys : List ℕ} {m : ℕ} → Puts b (take (length s.room - s.at) (drop s.at s.room)) ys m → Begun whole r o
+  next_put {ys} {m} q =
+      record {
+        room = take s.at s.room ++ (ys ++ drop (length s.room - s.at) (drop s.at s.room));
+        at = s.at + m;
+        front = s.front ++ b;
+        put = both_put q;
+        parts = append_assoc s.front b r ∙ s.parts;
+        fits = s.fits;
+      }

@@ -1,6 +1,6 @@
 #![tactic(auto)]
 
-ghost use Rattle.std.specs.Prelude.{◌≡◌, [], ◌∷◌, ◌++◌, ◌+◌, ◌≤◌, nat_abs, length};
+ghost use Rattle.std.specs.Prelude.{◌≡◌, [], ◌∷◌, ◌++◌, ◌≤◌, length};
 ghost use Rattle.sheet.specs.Text.{text, signed, ended};
 ghost use Rattle.lettering.specs.Putting.{Puts};
 
@@ -10,37 +10,35 @@ use sheet::{FEED, MINUS};
 pub fn digits(v: usize) -> usize
     ensures { result ≡ length (text v) }
 {
-    if v < 10 {
-        return 1;
-    }
-    digits(v / 10) + 1
+    v.checked_ilog10().unwrap_or(0) as usize + 1
 }
 
 // A number at the front of the room; its length. Rules out a leading zero, another digit, and a byte changed behind the number.
+// It calls itself: the digits come from the last to the first, and a loop that fills the room from behind is no plainer.
 pub fn put_number(v: usize, out: &mut [u8]) -> usize
     requires { length (text v) ≤ length out.old }
     ensures { Puts (text v) out.old out.new result }
 {
     if v < 10 {
-        out[0] = 48 + v as u8;
+        out[0] = b'0' + v as u8;
         return 1;
     }
     let k = put_number(v / 10, out);
-    out[k] = 48 + (v % 10) as u8;
+    out[k] = b'0' + (v % 10) as u8;
     k + 1
 }
 
 // Bytes at the front of the room; their number. Rules out a byte left out, and one changed behind them.
+// No `copy_from_slice`: where the compiler cannot see that text and room lie apart, that calls memmove, and of the C library only memcpy
+// and memset are called.
 pub fn put(text: &[u8], out: &mut [u8]) -> usize
     requires { length text.now ≤ length out.old }
     ensures { Puts text.now out.old out.new result }
 {
-    let mut i = 0;
-    while i < text.len() {
+    for i in 0..text.len() {
         out[i] = text[i];
-        i += 1;
     }
-    i
+    text.len()
 }
 
 // A number and one byte behind it. Rules out another byte there, and one changed behind it.
@@ -63,27 +61,15 @@ pub fn put_heading(head: &[u8], count: usize, out: &mut [u8]) -> usize
     a + b
 }
 
-// A signed number without its sign. Rules out the least number's sign lost in 32 bits.
-pub fn magnitude(v: i32) -> usize
-    ensures { result ≡ nat_abs v }
-{
-    let wide = v as i64;
-    if wide < 0 {
-        return (-wide) as usize;
-    }
-    wide as usize
-}
-
 // A signed number in the room. Rules out a minus before 0 and one left out.
 pub fn put_value(v: i32, out: &mut [u8]) -> usize
     requires { length (signed v) ≤ length out.old }
     ensures { Puts (signed v) out.old out.new result }
 {
-    let size = magnitude(v);
+    let size = v.unsigned_abs() as usize;
     if v < 0 {
         out[0] = MINUS;
-        let k = put_number(size, &mut out[1..]);
-        return 1 + k;
+        return 1 + put_number(size, &mut out[1..]);
     }
     put_number(size, out)
 }

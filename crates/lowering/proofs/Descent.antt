@@ -1,9 +1,9 @@
 -- The fall from a canon to the least canon above the floors, over functions. Assumes nothing.
-use mathlib.Core.Path.{◌≡◌, refl, ◌∙◌}
+use mathlib.Core.Path.{◌≡◌, refl, ◌∙◌, ap}
 use mathlib.Core.Logic.{◌⊎◌, inl, inr}
 use mathlib.Core.Bool.{Bool, true, false}
 use mathlib.Core.List.{List}
-use Prim.Native.Nat.{ℕ, ◌+◌, ◌-◌, ◌≤◌, ◌<◌}
+use Prim.Native.Nat.{ℕ, ◌+◌, ◌≤◌, ◌<◌}
 use native.Mathlib.Omega.{arith}
 use lib.IntN.{ℤ, pos, ◌+ℤ◌}
 use lib.Signed.{◌≤ℤ◌}
@@ -16,16 +16,11 @@ use Rattle.theory.proofs.Signed.{up, dn, raised_le_ud, ud_raised_le}
 use Rattle.theory.proofs.Duality.{maxima_everywhere}
 use Rattle.orders.specs.Places.{ceiling}
 use Rattle.orders.proofs.Entries.{clash}
-use Rattle.orders.proofs.Flags.{all_unset, set_flag}
+use Rattle.orders.proofs.Flags.{all_unset, set_flag, unset, unset_fewer}
 use Rattle.orders.specs.Held.{LeastBy}
-use Rattle.lowering.specs.Descent.{LeastSlack, Spare, Fallen, PulledAt, CanonGiven}
-
--- ---- one row of the fall
-pub fallen_open : {l : ℕ → ℕ} {settled : ℕ → Bool} {d i v : ℕ} → settled i ≡ false → v + d ≡ l i → Fallen l settled d i v
-fallen_open e q = record { stays = λ t. clash t e; falls = λ t. q }
-
-pub fallen_settled : {l : ℕ → ℕ} {settled : ℕ → Bool} {d i : ℕ} → settled i ≡ true → Fallen l settled d i (l i)
-fallen_settled e = record { stays = λ t. refl; falls = λ t. clash e t }
+use Rattle.orders.proofs.Stores.{put_flags}
+use Rattle.lowering.specs.Descent.{LeastOf, Spare, Fallen, PulledAt, Falls, Settles, CanonGiven}
+use Rattle.lowering.specs.declared.rows.Rows.{Rows}
 
 -- ---- the fall
 module _ (n : ℕ) (a : ℕ → ℕ → ℤ) (σ start : ℕ → ℕ) where
@@ -143,73 +138,69 @@ module _ (n : ℕ) (a : ℕ → ℕ → ℤ) (σ start : ℕ → ℕ) where
           under = falling_under;
         }
 
--- ---- the fall in the code's arrays
--- before row k is settled, or after the last row was
-pub record Going (t : List ℤ) (n : ℕ) (columns canon floors additions least : List ℕ) (settled : List Bool) (k : ℕ) : Type 0 where
-  pub falling : Falling n (entry t n) (nums columns) (nums floors) (nums additions) (nums least) (flags settled)
-  pub next : LeastSlack n n additions least settled k
-  pub long : length settled ≡ row_limit
-  pub not_above : AtMost n (nums additions) (nums canon)
+-- ---- the fall in the code's rows
+-- what holds between two rows that are settled
+pub record Going (t : List ℤ) (n : ℕ) (columns canon floors : List ℕ) (r : Rows) : Type 0 where
+  pub falling : Falling n (entry t n) (nums columns) (nums floors) (nums r.additions) (nums r.floors) (flags r.settled)
+  pub long : length r.settled ≡ row_limit
+  pub not_above : AtMost n (nums r.additions) (nums canon)
 
 module _ {t : List ℤ} {n : ℕ} {columns canon floors : List ℕ} (g : CanonGiven t n columns canon floors) where
-  pub going_start : {k : ℕ} → LeastSlack n n canon floors (replicate row_limit false) k
-      → Going t n columns canon floors canon floors (replicate row_limit false) k
-  going_start s =
+  pub going_start : Going t n columns canon floors (record { additions = canon; floors = floors; settled = replicate row_limit false })
+  going_start =
       record {
         falling =
             falling_start n (entry t n) (nums columns) (nums floors) (nums canon) (flags (replicate row_limit false)) g.canon_by.of_maxima
             g.not_below (all_unset row_limit);
-        next = s;
         long = length-replicate row_limit false;
         not_above = λ i hi. omega arith;
       }
 
-  module _ {additions least : List ℕ} {settled : List Bool} {k : ℕ} (go : Going t n columns canon floors additions least settled k) (hk : k < n) where
-    -- the row that is settled next is unsettled, and can fall to its floor
-    pub going_open : flags settled k ≡ false
-    going_open = go.next.unsettled hk
-
-    pub going_spare : Spare n additions settled (nums additions k - nums least k)
-    going_spare i hi e = omega (arith, go.next.least hk i hi e)
-
-    module _ (additions' : List ℕ)
-        (fallen : (i : ℕ) → i < n → Fallen (nums additions) (flags settled) (nums additions k - nums least k) i (nums additions' i)) where
-      pub going_lower : AtMost n (nums additions') (nums additions)
-      going_lower i hi = lower (flags settled i) refl
-        where
-          lower : (b : Bool) → flags settled i ≡ b → nums additions' i ≤ nums additions i
-          lower true e = omega (arith, (fallen i hi).stays e)
-          lower false e = omega (arith, (fallen i hi).falls e)
-
-      pub going_under : (i : ℕ) → i < n → nums additions' i ≤ ceiling
-      going_under i hi = omega (arith, going_lower i hi, go.not_above i hi, g.canon_by.under_ceiling i hi)
-
-      module _ (least' : List ℕ) (pulled : (i : ℕ) → i < n → PulledAt (entry t n) (nums columns) (nums least) k (nums additions' k) i (nums least' i)) where
-        pub going_falling : Falling n (entry t n) (nums columns) (nums floors) (nums additions') (nums least') (flags (set settled k true))
-        going_falling =
-            falling_step n (entry t n) (nums columns) (nums floors) f hk going_open (omega (arith, f.floors_below k hk))
-            (λ i hi e. omega (arith, go.next.least hk i hi e, f.floors_below i hi, f.floors_below k hk)) fallen (λ i hi. set_flag settled k i) pulled
-          where
-            f : Falling n (entry t n) (nums columns) (nums floors) (nums additions) (nums least) (flags settled)
-            f = go.falling
-
-        pub going_step : {k' : ℕ} → LeastSlack n n additions' least' (set settled k true) k'
-            → Going t n columns canon floors additions' least' (set settled k true) k'
-        going_step s =
-            record {
-              falling = going_falling;
-              next = s;
-              long = length-set settled k true ∙ go.long;
-              not_above = λ i hi. omega (arith, go.not_above i hi, going_lower i hi);
-            }
-
-  pub going_end : {additions least : List ℕ} {settled : List Bool} {k : ℕ} → Going t n columns canon floors additions least settled k → n ≤ k
-      → LeastBy t n (nums floors) additions columns
-  going_end go hk =
+  pub going_end : {r : Rows} → Going t n columns canon floors r → ((i : ℕ) → i < n → flags r.settled i ≡ true)
+      → LeastBy t n (nums floors) r.additions columns
+  going_end go all =
       record {
-        least = falling_end n (entry t n) (nums columns) (nums floors) go.falling (λ i hi. go.next.none (omega (arith, go.next.within)) i hi);
+        least = falling_end n (entry t n) (nums columns) (nums floors) go.falling all;
         canon = record {
           of_maxima = go.falling.of_maxima;
           under_ceiling = λ i hi. omega (arith, go.not_above i hi, g.canon_by.under_ceiling i hi);
         };
       }
+
+  -- row k is settled next: the rows fall from r to r' by its slack d, and then the floors rise to those of r''
+  module _ {r : Rows} {k d : ℕ} (go : Going t n columns canon floors r) (s : LeastOf n r k d) where
+    pub going_spare : Spare n r d
+    going_spare i hi e = omega (arith, s.least i hi e)
+
+    module _ {r' : Rows} (f : Falls n d r r') where
+      lower : AtMost n (nums r'.additions) (nums r.additions)
+      lower i hi = low (flags r.settled i) refl
+        where
+          low : (b : Bool) → flags r.settled i ≡ b → nums r'.additions i ≤ nums r.additions i
+          low true e = omega (arith, (f.fallen i hi).stays e)
+          low false e = omega (arith, (f.fallen i hi).falls e)
+
+      pub going_under : (i : ℕ) → i < n → nums r'.additions i ≤ ceiling
+      going_under i hi = omega (arith, lower i hi, go.not_above i hi, g.canon_by.under_ceiling i hi)
+
+      module _ {r'' : Rows} (p : Settles n (entry t n) (nums columns) k r' r'') where
+        now_settled : r''.settled ≡ set r.settled k true
+        now_settled = p.settled ∙ ap (λ x. set x k true) f.settled
+
+        next : Falling n (entry t n) (nums columns) (nums floors) (nums r'.additions) (nums r''.floors) (flags (set r.settled k true))
+        next =
+            falling_step n (entry t n) (nums columns) (nums floors) go.falling s.inside s.unsettled s.amount s.least f.fallen
+            (λ i hi. set_flag r.settled k i) (rw f.floors at p.pulled)
+
+        pub going_step : Going t n columns canon floors r''
+        going_step =
+            record {
+              falling = rw (p.additions, now_settled) next;
+              long = rw now_settled (length-set r.settled k true ∙ go.long);
+              not_above = λ i hi. rw p.additions (omega (arith, go.not_above i hi, lower i hi));
+            }
+
+        pub going_fewer : n ≤ row_limit → unset n (flags r''.settled) < unset n (flags r.settled)
+        going_fewer small =
+            let put = put_flags r.settled k true (omega (arith, s.inside, go.long)) in
+            rw now_settled (omega (arith, unset_fewer n s.inside s.unsettled put))

@@ -5,13 +5,13 @@ use mathlib.Core.List.{List, [], ◌∷◌, ◌++◌, append_assoc, append-nil}
 use Prim.Native.Nat.{ℕ, suc, ◌+◌, ◌*◌, ◌/◌, ◌%◌, ◌<◌, ◌≤◌}
 use native.Mathlib.Omega.{arith}
 use native.Mathlib.Numerals.{add-one}
-use borrow.Author.Tests.{ne_eqb}
 use lib.IntN.{ℤ, pos, negsuc, nat_abs}
 use lib.ListN.{length, get_or, take, drop, length-append, take-append-drop}
 use lib.Seq.{take-suc, length-take-le}
 use mir.Syntax.{w16, w64}
-use mir.Val.{SFits, Fits, of_z}
-use Rattle.orders.proofs.Entries.{absent_bits}
+use mir.Val.{SFits, Fits, bool_byte}
+use lib.Signed.{lt_z}
+use Rattle.lettering.proofs.TextLaws.{signed_minus, signed_plus}
 use Rattle.orders.proofs.Places.{row_inside, col_inside}
 use Rattle.sheet.specs.Text.{feed, blank, text, signed, ended}
 use Rattle.sheet.specs.Sheet.{is_absent, present_count, order_text, ended_lines, order_lines}
@@ -19,14 +19,17 @@ use Rattle.sheet.proofs.Numbers.{text_within}
 use Rattle.sheet.proofs.Orders.{ended_append, lines_append, count_append}
 use Rattle.order_lines.specs.Parts.{order_bytes, entry_bytes, order_end, value_most}
 
--- the length of a number of 16 bits, without its sign and with it
-pub size_short : (v : ℤ) → SFits w16 v → length (text (nat_abs v)) + 1 ≤ value_most
-size_short (pos n) f = omega (arith, text_within 4 n (omega (arith, f.sfits)))
-size_short (negsuc n) f = omega (arith, text_within 4 (suc n) (omega (arith, f.sfits)))
+-- the length of a number with its sign, and that of one of 16 bits
+pub signed_length : (v : ℤ) → bool_byte (lt_z v (pos 0)) + length (text (nat_abs v)) ≡ length (signed v)
+signed_length v = go (lt_z v (pos 0)) refl
+  where
+    go : (b : Bool) → lt_z v (pos 0) ≡ b → bool_byte b + length (text (nat_abs v)) ≡ length (signed v)
+    go true e = omega (arith, ap length (signed_minus v e))
+    go false e = omega (arith, ap length (signed_plus v e))
 
 pub value_short : (v : ℤ) → SFits w16 v → length (signed v) ≤ value_most
-value_short (pos n) f = omega (arith, size_short (pos n) f)
-value_short (negsuc n) f = omega (arith, size_short (negsuc n) f)
+value_short (pos n) f = omega (arith, text_within 4 n (omega (arith, f.sfits)))
+value_short (negsuc n) f = omega (arith, text_within 4 (suc n) (omega (arith, f.sfits)))
 
 -- the row and the column of a place, counted from 1, fit where the number of rows does
 module _ (n p : ℕ) (inside : p < n * n) (fits : Fits w64 n) where
@@ -80,26 +83,18 @@ module _ (t : List ℤ) (p : ℕ) (h : p < length t) where
       ∙ ap (λ i. order_bytes n 0 (take p t) ++ order_bytes n i (get_or t p (pos 0) ∷ [])) q
       ∙ ap (λ x. order_bytes n 0 (take p t) ++ x) (bytes_one n p (get_or t p (pos 0)))
 
-  pub count_next : present_count (take (p + 1) t) ≡ present_count (take p t) + cond (is_absent (get_or t p (pos 0))) 0 1
-  unfolding present_count
-  count_next =
-      ap (λ i. present_count (take i t)) (add-one p)
-      ∙ ap present_count (take-suc t p (pos 0) h) ∙ count_append (take p t) (get_or t p (pos 0) ∷ [])
-
 -- the lines of a front are no longer than those of the whole
-pub front_lines : (n k : ℕ) (t : List ℤ) → length (order_bytes n 0 (take k t)) ≤ length (order_bytes n 0 t)
+front_lines : (n k : ℕ) (t : List ℤ) → length (order_bytes n 0 (take k t)) ≤ length (order_bytes n 0 t)
 front_lines n k t =
     let e : order_bytes n 0 t ≡ order_bytes n 0 (take k t) ++ order_bytes n (0 + length (take k t)) (drop k t) =
     ap (λ x. order_bytes n 0 x) (sym (take-append-drop k t)) ∙ bytes_append n 0 (take k t) (drop k t) in
     omega (arith, ap length e, length-append (order_bytes n 0 (take k t)) (order_bytes n (0 + length (take k t)) (drop k t)))
 
--- the bits of an absent entry
-pub absent_bits_is : (v : ℤ) → SFits w16 v → of_z w16 v ≡ 32768 → is_absent v ≡ true
-absent_bits_is v f e = ap is_absent (absent_bits v f e)
-
-pub absent_bits_not : (v : ℤ) → (of_z w16 v ≡ 32768 → ⊥) → is_absent v ≡ false
-absent_bits_not (pos n) f = refl
-absent_bits_not (negsuc n) f = ne_eqb n 32767 (λ e. f (ap (λ x. of_z w16 (negsuc x)) e))
+-- the present places so far, with one place more
+pub count_next : (t : List ℤ) (p : ℕ) → p < length t → present_count (take (p + 1) t) ≡ present_count (take p t) + cond (is_absent (get_or t p (pos 0))) 0 1
+unfolding present_count
+count_next t p h =
+    ap (λ i. present_count (take i t)) (add-one p) ∙ ap present_count (take-suc t p (pos 0) h) ∙ count_append (take p t) (get_or t p (pos 0) ∷ [])
 
 -- the line of a present entry in the parts in which it is written
 pub line_parts : (n p : ℕ) (v : ℤ) → is_absent v ≡ false → (text (p / n + 1) ++ blank ∷ []) ++ order_end n p v ≡ entry_bytes n p v
@@ -117,14 +112,13 @@ pub present_length : (n p : ℕ) (v : ℤ) → is_absent v ≡ false
     → length (entry_bytes n p v) ≡ length (text (p / n + 1)) + length (text (p % n + 1)) + length (signed v) + 3
 present_length n p v e = ap length (line_present n p v e) ∙ order_text_length (p / n) (p % n) v
 
--- the lines with one entry more fit where all do
-pub next_room : (n : ℕ) (t : List ℤ) (p : ℕ) (o : List ℕ) → p < length t → length (order_bytes n 0 t) ≤ length o
-    → length (order_bytes n 0 (take p t) ++ entry_bytes n p (get_or t p (pos 0))) ≤ length o
-next_room n t p o h g = omega (arith, front_lines n (p + 1) t, ap length (order_lines_next t p h n))
-
--- what is counted at an absent and at a present place
-pub count_absent_next : (t : List ℤ) (p : ℕ) → p < length t → is_absent (get_or t p (pos 0)) ≡ true → present_count (take (p + 1) t) ≡ present_count (take p t)
-count_absent_next t p h e = count_next t p h ∙ ap (λ b. present_count (take p t) + cond b 0 1) e ∙ omega arith
-
-pub count_present_next : (t : List ℤ) (p : ℕ) → p < length t → is_absent (get_or t p (pos 0)) ≡ false → present_count (take (p + 1) t) ≡ present_count (take p t) + 1
-count_present_next t p h e = count_next t p h ∙ ap (λ b. present_count (take p t) + cond b 0 1) e
+-- the line of one entry more has room where all lines do
+pub entry_room : (n : ℕ) (t : List ℤ) (p : ℕ) → p < length t
+    → length (order_bytes n 0 (take p t)) + length (entry_bytes n p (get_or t p (pos 0))) ≤ length (order_bytes n 0 t)
+entry_room n t p h =
+    omega (
+      arith,
+      front_lines n (p + 1) t,
+      ap length (order_lines_next t p h n),
+      length-append (order_bytes n 0 (take p t)) (entry_bytes n p (get_or t p (pos 0))),
+    )

@@ -1,27 +1,27 @@
 -- Places of a square table row by row, and the head of a column one row after the other. Assumes nothing.
 use mathlib.Core.Path.{◌≡◌, refl, ◌∙◌}
 use mathlib.Core.List.{List}
-use mathlib.Core.Logic.{◌≢◌, ◌⊎◌, inl, inr}
+use mathlib.Core.Logic.{◌⊎◌, inl, inr}
 use Prim.Native.Nat.{ℕ, suc, ◌+◌, ◌*◌, ◌/◌, ◌%◌, ◌≤◌, ◌<◌}
 use native.Mathlib.Nat.{mul-le-mul_right, mul-add-div_right, div-eq_of_lt, mul-add-mod_self_right, mod-eq_of_lt, div-add-mod', div-lt_iff_lt-mul, mod-lt}
 use native.Mathlib.Decide.{ℕ_discrete}
 use native.Mathlib.Numerals.{add-one}
 use native.Mathlib.Omega.{arith}
 use lib.IntN.{ℤ, pos, ◌+ℤ◌}
-use lib.ListN.{length, set, length-set}
+use lib.ListN.{length, get_or, set, length-set}
 use lib.Signed.{◌≤ℤ◌, ≤ℤ_refl, ◌<ℤ◌}
 use Rattle.theory.specs.Limits.{row_limit}
-use Rattle.theory.specs.Lists.{nums, ints}
+use Rattle.theory.specs.Lists.{nums}
 use Rattle.theory.specs.Table.{absent, Present, entry, Entries, WithinLimit}
-use Rattle.theory.specs.Canon.{raised, EmptyColumn, LowestHolder, Holders, ColumnHead, held, empty}
+use Rattle.theory.specs.Canon.{raised, EmptyColumn, LowestHolder, Holders, held}
 use Rattle.theory.proofs.Signed.{signed, plus}
 use Rattle.theory.proofs.Counts.{count_most}
 use Rattle.theory.proofs.Decisions.{present_known, less_known, not_less}
 use Rattle.theory.proofs.Ties.{upto, new_holder, new_count, old_holder, count_more, count_kept}
-use Rattle.orders.specs.Places.{TopOf, Higher, Lowest, Counted}
-use Rattle.orders.specs.declared.Top.{Top}
+use Rattle.orders.specs.Places.{no_order, TopOf, Higher, Lowest, Counted}
+use Rattle.orders.specs.declared.table.Top.{Top}
 use Rattle.orders.proofs.Entries.{present_above}
-use Rattle.orders.proofs.Stores.{Put, put_nums, put_ints}
+use Rattle.orders.proofs.Stores.{Put, put, after}
 use mir.Syntax.{w16}
 use mir.Val.{SFits}
 
@@ -93,9 +93,6 @@ pub data Sought (t : List ℤ) (n k : ℕ) (l : List ℕ) (j : ℕ) (h : ℤ) (r
   some : absent <ℤ h → LowestHolder k (entry t n) (nums l) j row → h ≡ raised k (entry t n) (nums l) row j → Holders k (entry t n) (nums l) j c
       → Sought t n k l j h row c
 
-pub sought_none : (t : List ℤ) (n : ℕ) (l : List ℕ) (j : ℕ) → Sought t n 0 l j absent 0 0
-sought_none t n l j = none_yet (λ i h. absurd (omega arith)) refl refl
-
 -- no more rows hold the height than were taken in
 pub sought_few : {t : List ℤ} {n k : ℕ} {l : List ℕ} {j : ℕ} {h : ℤ} {row c : ℕ} → Sought t n k l j h row c → c ≤ k
 sought_few (none_yet f e z) = omega arith
@@ -159,50 +156,21 @@ module _ (t : List ℤ) (n k : ℕ) (l : List ℕ) (j : ℕ) (fits : SFits w16 (
           let e : h' ≡ h = elim one [ inl e ↦ e | inr q ↦ q.1 ∙ same ] in
           rw (e, u.stays (omega (arith, signed, e)), v.tied p same, add-one c) (sought_tied p same)
 
--- once all rows are taken in: the column has no order, or head, row and count are its own
-pub top_empty : {t : List ℤ} {n : ℕ} {l : List ℕ} {j : ℕ} {h : ℤ} {row c : ℕ} → Sought t n n l j h row c → h ≤ℤ absent
-    → TopOf t n l j (record { head = pos 0; row = 0; count = 0 })
-top_empty (none_yet f e z) le = empty f refl refl refl
-top_empty (some up u e s) le = absurd (omega (arith, signed))
-
 pub top_found : {t : List ℤ} {n : ℕ} {l : List ℕ} {j : ℕ} {h : ℤ} {row c : ℕ} → Sought t n n l j h row c → absent <ℤ h
     → (row < n) × TopOf t n l j (record { head = h; row = row + 1; count = c })
 top_found (none_yet f e z) lt = absurd (omega (arith, signed, e))
 top_found {row = row} (some up u e s) lt = (u.inside, held row u e refl s)
 
 -- ---- all columns
--- head, row and count of the first k columns stand in three arrays
-pub record TopsTo (t : List ℤ) (n k : ℕ) (l : List ℕ) (h : List ℤ) (rows counts : List ℕ) : Type 0 where
-  pub tops : (j : ℕ) → j < k → ColumnHead n (entry t n) (nums l) j (ints h j) (nums rows j) (nums counts j)
-  pub long : (length h ≡ row_limit) × (length rows ≡ row_limit) × (length counts ≡ row_limit)
+-- head, row and count of the first k columns stand in an array
+pub record TopsTo (t : List ℤ) (n k : ℕ) (l : List ℕ) (r : List Top) : Type 0 where
+  pub tops : (j : ℕ) → j < k → TopOf t n l j (get_or r j no_order)
+  pub long : length r ≡ row_limit
 
 -- one column more
-pub tops_step : {t : List ℤ} {n k : ℕ} {l : List ℕ} {h : List ℤ} {rows counts : List ℕ} {r : Top} → TopsTo t n k l h rows counts → k < row_limit
-    → TopOf t n l k r → TopsTo t n (k + 1) l (set h k r.head) (set rows k r.row) (set counts k r.count)
-tops_step {t} {n} {k} {l} {h} {rows} {counts} {r} w small top =
-    record {
-      tops = λ j hj. elim (ℕ_discrete j k) [ yes e ↦ here j e | no ne ↦ other j ne (w.tops j (omega arith)) ];
-      long = (
-        length-set h k r.head ∙ w.long.0,
-        length-set rows k r.row ∙ w.long.1,
-        length-set counts k r.count ∙ w.long.2,
-      );
-    }
+pub tops_step : {t : List ℤ} {n k : ℕ} {l : List ℕ} {r : List Top} {v : Top} → TopsTo t n k l r → k < row_limit → TopOf t n l k v
+    → TopsTo t n (k + 1) l (set r k v)
+tops_step {t} {n} {k} {l} {r} {v} w small top = record { tops = λ j hj. after (λ x. TopOf t n l x) in_tops j (λ e. top) (λ ne. w.tops j (omega arith)); long = length-set r k v ∙ w.long }
   where
-    in_heads : Put (ints h) (ints (set h k r.head)) k r.head
-    in_heads = put_ints h k r.head (omega (arith, w.long.0))
-
-    in_rows : Put (nums rows) (nums (set rows k r.row)) k r.row
-    in_rows = put_nums rows k r.row (omega (arith, w.long.1))
-
-    in_counts : Put (nums counts) (nums (set counts k r.count)) k r.count
-    in_counts = put_nums counts k r.count (omega (arith, w.long.2))
-
-    Here : ℕ → Type 0
-    Here j = ColumnHead n (entry t n) (nums l) j (ints (set h k r.head) j) (nums (set rows k r.row) j) (nums (set counts k r.count) j)
-
-    here : (j : ℕ) → j ≡ k → Here j
-    here j e = rw (e, in_heads.at, in_rows.at, in_counts.at) top
-
-    other : (j : ℕ) → j ≢ k → ColumnHead n (entry t n) (nums l) j (ints h j) (nums rows j) (nums counts j) → Here j
-    other j ne c = rw (in_heads.off j ne, in_rows.off j ne, in_counts.off j ne) c
+    in_tops : Put (λ x. get_or r x no_order) (λ x. get_or (set r k v) x no_order) k v
+    in_tops = put no_order r k v (omega (arith, w.long))

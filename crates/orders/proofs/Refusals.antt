@@ -9,7 +9,8 @@ use native.Mathlib.Decide.{ℕ_discrete}
 use native.Mathlib.Omega.{arith}
 use lib.Dec.{eqb}
 use lib.ListN.{get_or}
-use Rattle.orders.specs.Refusals.{number_of, values_of, Said, gives, refuses, refusal}
+use Rattle.std.specs.Prelude.{Result, Ok, Err}
+use Rattle.orders.specs.Refusals.{number_of, values_of, Said, gives, refuses, refusal, says}
 use Rattle.orders.specs.Refusals.{Test, First, Clear, Applies, numbers, Rising, Among, Slice, WrongLength, RightLengths}
 use Rattle.orders.specs.declared.Refusal.{Refusal}
 use Rattle.orders.specs.declared.Refusal.TheVariants.{Size, Length, Entry, Addition, StarList, NoTransversal, NoCanon}
@@ -131,3 +132,14 @@ same_number j k vs ws e = let a : k ≡ j = cc in let b : ws ≡ vs = cc in (a, 
 -- a value is no refusal
 pub not_both {ℓ} : {A : Type ℓ} {X : Type 0} (x : X) (k : ℕ) (vs : List ℕ) → ◌≡◌ {A = Said X} (gives x) (refuses k vs) → A
 not_both x k vs e = absurd (let z : ◌≡◌ {A = ℕ} 0 1 = cc in omega arith)
+
+-- a refusal says the same, whatever kind of value would be given in its place
+pub same_refusal : {X Y : Type 0} (y : Refusal) (k : ℕ) (vs : List ℕ) → ◌≡◌ {A = Said X} (refusal y) (refuses k vs) → ◌≡◌ {A = Said Y} (refusal y) (refuses k vs)
+same_refusal y k vs e = let c : number_of y ≡ k = cc in let d : values_of y ≡ vs = cc in cc
+
+-- two answers that say the same are one
+pub says_once : {X : Type 0} (a b : Result X Refusal) → says a ≡ says b → a ≡ b
+says_once (Ok x) (Ok y) e = ap Ok (given_once x y e)
+says_once (Ok x) (Err r) e = not_both x (number_of r) (values_of r) e
+says_once (Err r) (Ok y) e = not_both y (number_of r) (values_of r) (sym e)
+says_once (Err r) (Err q) e = ap Err (refusal_once r q e)

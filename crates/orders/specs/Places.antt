@@ -1,32 +1,30 @@
 -- Reading one place of a table that was tested, and a column's head.
-use Rattle.std.specs.Prelude.{◌≡◌, ◌⊎◌, List, ℕ, ◌+◌, ◌*◌, ◌≤◌, ◌<◌, ℤ, pos, ◌+ℤ◌, length, ◌≤ℤ◌, ◌<ℤ◌}
-use Rattle.theory.specs.Limits.{row_limit}
-use Rattle.theory.specs.Lists.{nums, ints}
+use Rattle.std.specs.Prelude.{◌≡◌, ◌⊎◌, List, ℕ, ◌+◌, ◌≤◌, ◌<◌, ℤ, pos, ◌+ℤ◌, get_or, ◌≤ℤ◌, ◌<ℤ◌}
+pub use Rattle.orders.specs.Squares.{Square}
+use Rattle.theory.specs.Lists.{nums}
 use Rattle.theory.specs.Table.{Present, entry}
 use Rattle.theory.specs.Canon.{ColumnHead}
-use Rattle.orders.specs.declared.Top.{Top}
-use Rattle.orders.specs.declared.Tops.{Tops}
+use Rattle.orders.specs.declared.table.Top.{Top}
 
 -- the ceiling, which no addition passes while the code works: under it a raised order and a difference of two fit 32 bits
 abbrev pub ceiling : ℕ
 ceiling = 100000000
 
--- a table of n rows and columns, of a size that the code takes
-pub record Square (t : List ℤ) (n : ℕ) : Type 0 where
-  pub small : n ≤ row_limit
-  pub square : length t ≡ n * n
-
 -- no addition of the first n rows passes the ceiling
 abbrev pub UnderCeiling : ℕ → List ℕ → Type 0
 UnderCeiling n l = (i : ℕ) → i < n → nums l i ≤ ceiling
+
+-- what is told of a column with no order
+abbrev pub no_order : Top
+no_order = record { head = pos 0; row = 0; count = 0 }
 
 -- r has head, lowest row and count of column j of the table t of n rows, with the additions l
 abbrev pub TopOf : List ℤ → ℕ → List ℕ → ℕ → Top → Type 0
 TopOf t n l j r = ColumnHead n (entry t n) (nums l) j r.head r.row r.count
 
--- r has them of each of the n columns
-abbrev pub TopsOf : List ℤ → ℕ → List ℕ → Tops → Type 0
-TopsOf t n l r = (j : ℕ) → j < n → ColumnHead n (entry t n) (nums l) j (ints r.heads j) (nums r.rows j) (nums r.counts j)
+-- r has them of each of the n columns, one after the other
+abbrev pub TopsOf : List ℤ → ℕ → List ℕ → List Top → Type 0
+TopsOf t n l r = (j : ℕ) → j < n → TopOf t n l j (get_or r j no_order)
 
 -- r is the larger of a height and the order v raised by l, where v is present
 pub record Higher (v : ℤ) (l : ℕ) (height r : ℤ) : Type 0 where

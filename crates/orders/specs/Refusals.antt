@@ -1,5 +1,5 @@
 -- Document 01's "Refusal numbers": the number and the values of each case of the refusal.
-use Rattle.std.specs.Prelude.{ℕ, ◌<◌, ◌≡◌, ◌⊎◌, ◌≢◌, List, [], ◌∷◌}
+use Rattle.std.specs.Prelude.{ℕ, ◌<◌, ◌≡◌, ◌⊎◌, ◌≢◌, List, [], ◌∷◌, Result, Ok, Err}
 use Rattle.orders.specs.declared.Refusal.{Refusal}
 use Rattle.orders.specs.declared.Refusal.TheVariants.{Size, Length, Entry, Addition, StarList, NoTransversal, NoCanon}
 use Rattle.orders.specs.declared.Refusal.TheVariants.{NotGreatest, TooLong, Line, Label, Room}
@@ -43,6 +43,12 @@ pub data Said (X : Type 0) : Type 0 where
 -- what a refusal says
 abbrev pub refusal : {X : Type 0} → Refusal → Said X
 refusal r = refuses (number_of r) (values_of r)
+
+-- "If an answer is an enum, a definition gives this paper's number and values for each of its cases": of every answer that is a value or
+-- a refusal
+abbrev pub says : {X : Type 0} → Result X Refusal → Said X
+says (Ok x) = gives x
+says (Err r) = refusal r
 
 -- ---- which refusal is given
 -- a refusal's number, and the condition under which it is given

@@ -8,6 +8,12 @@ ghost use Rattle.orders.specs.Tested.{Tells};
 ghost use Rattle.orders.specs.Places.{ceiling, Square, UnderCeiling, TopOf, TopsOf, Higher, Lowest, Counted};
 ghost use Rattle.theory.specs.Table.{entry};
 
+mod marks;
+mod table;
+
+pub use marks::Marked;
+pub use table::{Table, Top};
+
 // Document 01's limits.
 pub const ROWS: usize = 32;
 
@@ -22,7 +28,7 @@ pub const HANDED: u32 = 10000;
 pub const SHEET: usize = 12288;
 
 // The refusals of document 01, in the order of their numbers.
-#[derive(Drop)]
+#[derive(Clone, Copy, Debug, PartialEq, Eq)]
 pub enum Refusal {
     Size,
     Length,
@@ -38,23 +44,26 @@ pub enum Refusal {
     Room,
 }
 
-// Document 01's number of a refusal. Rules out every other number.
-pub fn number(r: Refusal) -> u32
-    ensures { result ≡ number_of r }
-{
-    match r {
-        Refusal::Size => 1,
-        Refusal::Length => 2,
-        Refusal::Entry => 3,
-        Refusal::Addition => 4,
-        Refusal::StarList => 5,
-        Refusal::NoTransversal => 6,
-        Refusal::NoCanon => 7,
-        Refusal::NotGreatest => 8,
-        Refusal::TooLong => 9,
-        Refusal::Line(_) => 10,
-        Refusal::Label => 11,
-        Refusal::Room => 12,
+impl Refusal {
+    // Document 01's number of a refusal, under document 01's word: `u32::from(refusal)` would not say which number. `as` does not
+    // give it, since one refusal carries its line. Rules out every other number.
+    pub fn number(self) -> u32
+        ensures { result ≡ number_of self }
+    {
+        match self {
+            Refusal::Size => 1,
+            Refusal::Length => 2,
+            Refusal::Entry => 3,
+            Refusal::Addition => 4,
+            Refusal::StarList => 5,
+            Refusal::NoTransversal => 6,
+            Refusal::NoCanon => 7,
+            Refusal::NotGreatest => 8,
+            Refusal::TooLong => 9,
+            Refusal::Line(_) => 10,
+            Refusal::Label => 11,
+            Refusal::Room => 12,
+        }
     }
 }
 
@@ -77,28 +86,19 @@ pub fn entries_stand(table: &[i16]) -> bool
     ensures { Tells result (Entries order_limit table.now) }
 {
     let mut all = true;
-    let mut k = 0;
-    while k < table.len() {
-        all = all & entry_stands(table[k]);
-        k += 1;
+    for v in table {
+        all = all & entry_stands(*v);
     }
     all
 }
 
-// What stands in row i and column j. Rules out row and column exchanged.
-pub fn place(table: &[i16], n: usize, i: usize, j: usize) -> i16
-    requires { Square table.now n × (i < n) × (j < n) }
-    ensures { result ≡ entry table.now n i j }
-{
-    table[i * n + j]
-}
-
-// An order raised by an addition. Rules out every other number.
+// An order raised by an addition. Rules out every other number. That an addition is under the ceiling stays a clause, here and below: a
+// type around one number would have to stand in every array of additions, which the public calls lend as they are.
 pub fn raise(order: i16, addition: u32) -> i32
     requires { addition ≤ ceiling }
     ensures { result ≡ order +ℤ pos addition }
 {
-    order as i32 + addition as i32
+    i32::from(order) + addition as i32
 }
 
 // How far a height is above an order that does not pass it. Rules out every other number.
@@ -106,7 +106,7 @@ pub fn excess(height: i32, order: i16) -> u32
     requires { (order ≤ℤ height) × (height ≤ℤ pos (2 * ceiling)) }
     ensures { order +ℤ pos result ≡ height }
 {
-    (height - order as i32) as u32
+    (height - i32::from(order)) as u32
 }
 
 // Is an order present and, raised, the head given? Rules out an absent place taken for an order, and another head.
@@ -118,14 +118,6 @@ pub fn tight(order: i16, addition: u32, head: i32) -> bool
         return false;
     }
     raise(order, addition) == head
-}
-
-// A column's head, the lowest row that holds it, numbered from 1, and how many rows do; all three are 0 where the column has no order.
-#[derive(Drop)]
-pub struct Top {
-    pub head: i32,
-    pub row: u32,
-    pub count: u32,
 }
 
 // The larger of a height and one more order of the column, raised; an absent place is passed over. Rules out the smaller of the two,
@@ -172,70 +164,4 @@ fn counted(count: u32, height: i32, entry: i16, addition: u32) -> u32
         return count + 1;
     }
     1
-}
-
-// Head, lowest row and count of column j with the additions given. The height begins below every raised order, and is still there where
-// the column has none; in the loop the row is counted from 0. Row and count have functions of their own, so that the compiler drops
-// them where a caller asks for the head alone. Rules out a head that no order reaches or that one exceeds, another row than
-// the lowest that holds it, a tie left out, and anything but 0 in a column with no order.
-pub fn head(table: &[i16], n: usize, additions: &[u32; ROWS], j: usize) -> Top
-    requires { Square table.now n × (j < n) × UnderCeiling n additions.now }
-    ensures { TopOf table.now n additions.now j result }
-{
-    let mut height = ABSENT as i32;
-    let mut row = 0;
-    let mut count = 0;
-    let mut i = 0;
-    while i < n {
-        let order = place(table, n, i, j);
-        let next = higher(height, order, additions[i]);
-        row = lowest(row, height, next, i);
-        count = counted(count, height, order, additions[i]);
-        height = next;
-        i += 1;
-    }
-    if height <= ABSENT as i32 {
-        return Top {
-            head: 0,
-            row: 0,
-            count: 0,
-        };
-    }
-    Top {
-        head: height,
-        row: row as u32 + 1,
-        count,
-    }
-}
-
-// Head, lowest row and count of every column, as `Top` has them of one.
-#[derive(Drop)]
-pub struct Tops {
-    pub heads: [i32; ROWS],
-    pub rows: [u32; ROWS],
-    pub counts: [u32; ROWS],
-}
-
-// Head, lowest row and count of each of the n columns. Rules out what `head` rules out, in every column.
-pub fn heads(table: &[i16], n: usize, additions: &[u32; ROWS]) -> Tops
-    requires { Square table.now n × UnderCeiling n additions.now }
-    ensures { TopsOf table.now n additions.now result }
-{
-    let mut heads = [0i32; ROWS];
-    let mut rows = [0u32; ROWS];
-    let mut counts = [0u32; ROWS];
-    let mut j = 0;
-    while j < n {
-        let top = head(table, n, additions, j);
-        let height = top.head;
-        heads[j] = height;
-        rows[j] = top.row;
-        counts[j] = top.count;
-        j += 1;
-    }
-    Tops {
-        heads,
-        rows,
-        counts,
-    }
 }

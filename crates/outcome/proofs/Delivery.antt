@@ -47,7 +47,8 @@ delivery {t} {n} {l} {adds} {stars} {heads} {w} {adds'} {stars'} {heads'} small 
           (λ i hi. rw (← (same_stars i hi)) (whole.from_one i hi)) first;
       stars_are = first;
       heads_long = ap length out.heads_are ∙ cut heads w.heads small lent.heads_long wide_heads;
-      heads_are = λ j hj. rw (out.heads_are, get_or-take (length heads) w.heads j (pos 0) (omega (arith, lent.heads_long))) (whole.heads j hj);
+      heads_are = λ j hj.
+          rw (out.heads_are, get_or-take (length heads) w.heads j (pos 0) (omega (arith, lent.heads_long))) (whole.heads j hj);
       is_sum = whole.is_sum ∙ sum_same n (entry t n) (λ i hi. ap (λ (x : ℕ). x - 1) (same_stars i hi));
     }
   where

@@ -1,5 +1,6 @@
 -- "The printed answer, whole."
-use mathlib.Core.List.{List, [], ◌∷◌, ◌++◌, map, flat_map}
+use mathlib.Core.List.{List, [], ◌∷◌, ◌++◌, map}
+use Rattle.std.specs.List.{flat_map}
 use Rattle.std.specs.Prelude.{ℕ, ℤ}
 use Prim.Native.String.{String}
 use Rattle.sheet.specs.Text.{blank, ascii, text, signed, ended}

@@ -1,111 +1,89 @@
 #![tactic(auto)]
 
-ghost use Rattle.std.specs.Prelude.{◌≤◌, length};
+ghost use Rattle.std.specs.Prelude.{◌≤◌, List, ℕ, length};
 ghost use Rattle.orders.specs.Refusals.{gives, refusal};
+ghost use Rattle.sheet.specs.Text.{ended, signed, text};
 ghost use Rattle.lettering.specs.Putting.{Puts};
-ghost use Rattle.page.specs.Printed.{figures, printed};
-ghost use Rattle.page.specs.Parts.{number_lines, integer_lines, number_section, integer_section, section_at, SectionFits};
+ghost use Rattle.page.specs.Printed.{printed};
+ghost use Rattle.page.specs.Parts.{figures_of, lines, section};
 
 use lettering::{put_count, put_heading, put_value_line};
-use orders::{Refusal, number};
+use orders::Refusal;
 use sheet::FEED;
 
-// The sections of an answer.
-const SECTIONS: usize = 6;
+// A number that is printed, with a sign or without.
+trait Figure: Copy {
+    ghost shown: { Self → List ℕ };
 
-// Numbers, one a line. Rules out a number left out, two on a line, and a byte changed behind them.
-fn put_number_lines(values: &[u32], out: &mut [u8]) -> usize
-    requires { length (number_lines values.now) ≤ length out.old }
-    ensures { Puts (number_lines values.now) out.old out.new result }
-{
-    let mut at: usize = 0;
-    let mut k = 0;
-    while k < values.len() {
-        at += put_count(values[k] as usize, FEED, &mut out[at..]);
-        k += 1;
-    }
-    at
+    // The number and a line feed. Rules out another text, and a byte changed behind it.
+    fn put_line(self, out: &mut [u8]) -> usize
+        requires { length (ended (shown self)) ≤ length out.old }
+        ensures { Puts (ended (shown self)) out.old out.new result };
 }
 
-// Signed numbers, one a line. Rules out the same.
-fn put_integer_lines(values: &[i32], out: &mut [u8]) -> usize
-    requires { length (integer_lines values.now) ≤ length out.old }
-    ensures { Puts (integer_lines values.now) out.old out.new result }
+impl Figure for u32 {
+    ghost shown = { text };
+
+    fn put_line(self, out: &mut [u8]) -> usize {
+        put_count(self as usize, FEED, out)
+    }
+}
+
+impl Figure for i32 {
+    ghost shown = { signed };
+
+    fn put_line(self, out: &mut [u8]) -> usize {
+        put_value_line(self, out)
+    }
+}
+
+// The figures of a table: additions, starred columns, heads and ties, the sum and the index figure.
+#[derive(Clone, Copy)]
+pub struct Figures<'a> {
+    pub adds: &'a [u32],
+    pub stars: &'a [u32],
+    pub heads: &'a [i32],
+    pub ties: &'a [u32],
+    pub sum: i32,
+    pub index: u32,
+}
+
+// Numbers, one a line, each in the room that those before it left. Rules out a number left out, two on a line, and a byte changed
+// behind them.
+#[tactic(auto, using(crate::proofs::Joining::line_room))]
+fn put_lines<T: Figure>(values: &[T], out: &mut [u8]) -> usize
+    requires { length (lines T.shown values.now) ≤ length out.old }
+    ensures { Puts (lines T.shown values.now) out.old out.new result }
 {
     let mut at: usize = 0;
-    let mut k = 0;
-    while k < values.len() {
-        at += put_value_line(values[k], &mut out[at..]);
-        k += 1;
+    for value in values {
+        at += value.put_line(&mut out[at..]);
     }
     at
 }
 
 // A section of numbers. Rules out another count than that of the lines.
-fn put_numbers(head: &[u8], values: &[u32], out: &mut [u8]) -> usize
-    requires { length (number_section head.now values.now) ≤ length out.old }
-    ensures { Puts (number_section head.now values.now) out.old out.new result }
+fn put_section<T: Figure>(head: &[u8], values: &[T], out: &mut [u8]) -> usize
+    requires { length (section T.shown head.now values.now) ≤ length out.old }
+    ensures { Puts (section T.shown head.now values.now) out.old out.new result }
 {
     let a = put_heading(head, values.len(), out);
-    let b = put_number_lines(values, &mut out[a..]);
+    let b = put_lines(values, &mut out[a..]);
     a + b
 }
 
-// A section of signed numbers. Rules out the same.
-fn put_integers(head: &[u8], values: &[i32], out: &mut [u8]) -> usize
-    requires { length (integer_section head.now values.now) ≤ length out.old }
-    ensures { Puts (integer_section head.now values.now) out.old out.new result }
+// The figures of a table, section after section, each in the room that those before it left. Rules out a section left out, sections in
+// another order, and one list under another's name.
+pub fn put_figures(figures: &Figures<'_>, page: &mut [u8]) -> usize
+    requires { length (printed (gives (figures_of figures.now))) ≤ length page.old }
+    ensures { Puts (printed (gives (figures_of figures.now))) page.old page.new result }
 {
-    let a = put_heading(head, values.len(), out);
-    let b = put_integer_lines(values, &mut out[a..]);
-    a + b
-}
-
-// Section k of an answer. Rules out sections in another order, and one list under another's name.
-fn put_section(
-    k: usize,
-    adds: &[u32],
-    stars: &[u32],
-    heads: &[i32],
-    ties: &[u32],
-    sum: i32,
-    index: u32,
-    out: &mut [u8],
-) -> usize
-    requires { SectionFits k (figures adds.now stars.now heads.now ties.now sum index) out.old }
-    ensures { Puts (section_at k (figures adds.now stars.now heads.now ties.now sum index))
-        out.old out.new result }
-{
-    match k {
-        0 => put_numbers(b"adds ", adds, out),
-        1 => put_numbers(b"stars ", stars, out),
-        2 => put_integers(b"heads ", heads, out),
-        3 => put_numbers(b"ties ", ties, out),
-        4 => put_integers(b"sum ", &[sum; 1], out),
-        _ => put_numbers(b"index ", &[index; 1], out),
-    }
-}
-
-// The figures of a table, section after section, each in the room that those before it left. Rules out a section left out.
-pub fn put_figures(
-    adds: &[u32],
-    stars: &[u32],
-    heads: &[i32],
-    ties: &[u32],
-    sum: i32,
-    index: u32,
-    page: &mut [u8],
-) -> usize
-    requires { length (printed (gives (figures adds.now stars.now heads.now ties.now sum index))) ≤ length page.old }
-    ensures { Puts (printed (gives (figures adds.now stars.now heads.now ties.now sum index)))
-        page.old page.new result }
-{
-    let mut at: usize = 0;
-    let mut k = 0;
-    while k < SECTIONS {
-        at += put_section(k, adds, stars, heads, ties, sum, index, &mut page[at..]);
-        k += 1;
-    }
+    let mut at = put_section(b"adds ", figures.adds, page);
+    at += put_section(b"stars ", figures.stars, &mut page[at..]);
+    at += put_section(b"heads ", figures.heads, &mut page[at..]);
+    at += put_section(b"ties ", figures.ties, &mut page[at..]);
+    at += put_section(b"sum ", &[figures.sum], &mut page[at..]);
+    at += put_section(b"index ", &[figures.index], &mut page[at..]);
     at
 }
 
@@ -114,9 +92,8 @@ pub fn put_refusal(r: Refusal, page: &mut [u8]) -> usize
     requires { length (printed (refusal r)) ≤ length page.old }
     ensures { Puts (printed (refusal r)) page.old page.new result }
 {
-    if let Refusal::Line(line) = r {
-        return put_heading(b"refused 10 ", line, page);
+    match r {
+        Refusal::Line(line) => put_heading(b"refused 10 ", line, page),
+        _ => put_heading(b"refused ", r.number() as usize, page),
     }
-    let code = number(r) as usize;
-    put_heading(b"refused ", code, page)
 }

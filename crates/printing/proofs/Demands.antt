@@ -11,11 +11,10 @@ use Rattle.theory.specs.Canon.{LargestAddition}
 use Rattle.theory.proofs.Counts.{count_once}
 use Rattle.theory.proofs.Index.{index_near, index_kept, index_more, more_only, head_zero_from, head_zero_at}
 use Rattle.theory.proofs.Ties.{head_holders}
-use Rattle.orders.specs.Refusals.{Said, gives, refuses}
+use Rattle.orders.specs.Refusals.{Said, gives, refuses, says}
 use Rattle.orders.proofs.Refusals.{same_number, not_both}
-use Rattle.canon.specs.Answers.{told}
+use Rattle.canon.specs.Answers.{Filled}
 use Rattle.canon.specs.Demands.{HeadBuffers, FillsHeads}
-use Rattle.canon.specs.declared.Filled.{Filled}
 use Rattle.canon.proofs.Unique.{same_list}
 use Rattle.canon.proofs.Ties.{heads_told, heads_same}
 use Rattle.page.specs.Printed.{Figures, printed}
@@ -26,9 +25,9 @@ use Rattle.printing.proofs.Unique.{sheet_once, print_once}
 
 module _ (s room room' : List ℕ) (r : Said ℕ) where
   printing_refused : (k : ℕ) (vs : List ℕ) → printing_due s room k vs → PrintPromise s room room' r → (r ≡ refuses k vs) × (room' ≡ room)
-  printing_refused k vs (a, says, short, twelve, none) (no_room b g l e kept) = (rw (twelve, none) e, kept)
-  printing_refused k vs (a, says, short, twelve, none) (wrote b g l e is) =
-      let c : length (printed a) ≡ length (printed b) = ap (λ x. length (printed x)) (sheet_once s a b says g) in absurd (omega arith)
+  printing_refused k vs (a, said, short, twelve, none) (no_room b g l e kept) = (rw (twelve, none) e, kept)
+  printing_refused k vs (a, said, short, twelve, none) (wrote b g l e is) =
+      let c : length (printed a) ≡ length (printed b) = ap (λ x. length (printed x)) (sheet_once s a b said g) in absurd (omega arith)
 
   printing_only_due : (k : ℕ) (vs : List ℕ) → PrintPromise s room room' r → r ≡ refuses k vs → printing_due s room k vs
   printing_only_due k vs (no_room b g l e kept) f =
@@ -36,7 +35,7 @@ module _ (s room room' : List ℕ) (r : Said ℕ) where
   printing_only_due k vs (wrote b g l e is) f = not_both (length (printed b)) k vs (sym e ∙ f)
 
 module _ (n : ℕ) (t : List ℤ) (f : Figures) (b b' : HeadBuffers) (r : Filled) where
-  shared_columns : FiguresOf n t f → FillsHeads n t f.adds b r b' → told r ≡ gives tt → (b'.heads ≡ f.heads) × (b'.counts ≡ f.ties)
+  shared_columns : FiguresOf n t f → FillsHeads n t f.adds b r b' → says r ≡ gives tt → (b'.heads ≡ f.heads) × (b'.counts ≡ f.ties)
   shared_columns p q e =
       let w = heads_told b b' q e in (
         heads_same w f.heads p.heads_long p.solution.heads,

@@ -1,6 +1,7 @@
 -- Every printed answer fits the room that is enough: its sections are few, and each has few and short lines. Assumes nothing.
 use mathlib.Core.Path.{◌≡◌, refl, ap}
-use mathlib.Core.List.{List, [], ◌∷◌, ◌++◌, map, flat_map}
+use mathlib.Core.List.{List, [], ◌∷◌, ◌++◌, map}
+use Rattle.std.specs.List.{flat_map}
 use Prim.Native.Nat.{ℕ, zero, suc, ◌+◌, ◌*◌, ◌≤◌, ◌<◌}
 use Prim.Native.String.{String}
 use native.Mathlib.Decide.{dec_le}
@@ -53,7 +54,6 @@ data AllShort : List Section → Type 0 where
   ◌also◌ : {s : Section} {ss : List Section} → Short s → AllShort ss → AllShort (s ∷ ss)
 
 sections_fit : {ss : List Section} → AllShort ss → length (flat_map section_text ss) ≤ section_room * length ss
-unfolding flat_map
 sections_fit none = omega arith
 sections_fit (◌also◌ {s} {ss} h more) =
     omega (arith, length-append (section_text s) (flat_map section_text ss), section_fits s h, sections_fit more)

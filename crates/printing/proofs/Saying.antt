@@ -9,40 +9,32 @@ use native.Mathlib.Omega.{arith}
 use lib.IntN.{ℤ}
 use lib.ListN.{length, take, drop, length-append, get_or-append}
 use lib.Seq.{take_at, get_or-take, length-take-le}
+use Rattle.std.specs.Prelude.{Result, Ok, Err}
 use Rattle.theory.specs.Limits.{row_limit}
 use Rattle.theory.specs.Lists.{nums}
 use Rattle.theory.specs.Table.{entry}
 use Rattle.theory.specs.Canon.{NoTransversal, Ties}
-use Rattle.theory.proofs.Ties.{head_holders, holders_same}
+use Rattle.theory.proofs.Ties.{holders_same}
 use Rattle.orders.specs.declared.Refusal.{Refusal}
-use Rattle.orders.specs.declared.Tops.{Tops}
-use Rattle.orders.specs.Places.{UnderCeiling, TopsOf}
-use Rattle.orders.specs.Refusals.{number_of, values_of, First, Said, gives, refuses, refusal}
-use Rattle.orders.proofs.Refusals.{given_once, not_both, right_not_wrong}
+use Rattle.orders.specs.Places.{UnderCeiling}
+use Rattle.orders.specs.Refusals.{number_of, values_of, First, Said, gives, refuses, refusal, says}
+use Rattle.orders.proofs.Refusals.{given_once, not_both, right_not_wrong, same_refusal}
 use Rattle.handed.specs.Conditions.{slices, table_tests}
 use Rattle.handed.specs.Handed.{Sound}
 use Rattle.handed.proofs.Basics.{entries_right, sized}
-use Rattle.canon.specs.Answers.{said}
+use Rattle.canon.specs.Answers.{Answer}
 use Rattle.canon.specs.Promises.{Solves, refused, answered}
 use Rattle.canon.proofs.Theorems.{found_within}
-use Rattle.canon.specs.declared.Answer.{Answer}
-use Rattle.canon.specs.declared.Answer.TheVariants.{Sum, Refused}
 use Rattle.sheet.specs.Text.{over}
 use Rattle.sheet.specs.Sheet.{Labelled, IsSheet, TooLong}
 use Rattle.reader.specs.Promise as reading
 use Rattle.reader.proofs.PromiseLaws.{lengths_right}
-use Rattle.reader.specs.declared.Read.{Read}
-use Rattle.reader.specs.declared.Read.TheVariants as read
 use Rattle.page.specs.Printed.{Figures, figures}
 use Rattle.index_figure.specs.Parts.{HeadsKnown, IndexOf}
 use Rattle.printing.specs.Promise.{TableSays, no_transversal, solved, SheetSays, too_long, wrong_line, of_table, Prints}
 use Rattle.printing.proofs.Fits.{stands_sound}
 
 -- ---- the solver
--- a refusal says the same, whatever kind of value would be given in its place
-same_refusal : {X Y : Type 0} (y : Refusal) (k : ℕ) (vs : List ℕ) → ◌≡◌ {A = Said X} (refusal y) (refuses k vs) → ◌≡◌ {A = Said Y} (refusal y) (refuses k vs)
-same_refusal y k vs e = let c : number_of y ≡ k = cc in let d : values_of y ≡ vs = cc in cc
-
 -- slices of a table's size
 pub record Sized (n : ℕ) (a s : List ℕ) (z : List ℤ) : Type 0 where
   pub adds_long : length a ≡ n
@@ -71,28 +63,28 @@ module _ {n : ℕ} {t : List ℤ} {a s a' s' : List ℕ} {z z' : List ℤ} {r : 
       go (answered v c e la st lz w) = record { adds_long = la; stars_long = st.long; heads_long = lz }
 
   -- The additions found are far under the ceiling, also in an array that holds them at its front: heads can be searched under them.
-  pub solved_low : (b : List ℕ) (v : ℤ) → r ≡ Sum v → UnderCeiling n (a' ++ b)
+  pub solved_low : (b : List ℕ) (v : ℤ) → r ≡ Ok v → UnderCeiling n (a' ++ b)
   solved_low b v q = go p
     where
       go : Solves n t a s z r a' s' z' → UnderCeiling n (a' ++ b)
-      go (refused k low e ea es ez) = not_both v k [] (sym (ap said q) ∙ e)
+      go (refused k low e ea es ez) = not_both v k [] (sym (ap says q) ∙ e)
       go (answered w c e la st lz f) = λ i hi.
           let found = found_within t a' s' z' (sized h.in_size).1 h.square.square h.entries f in
           rw (get_or-append a' b 0 i (omega arith)) (omega (arith, found.addition_most i hi))
 
-  -- The counts that this search gives are the ties under the additions.
-  counted_ties : (b : List ℕ) (tops : Tops) → TopsOf t n (a' ++ b) tops → Ties n (entry t n) (nums a') (nums (take n tops.counts))
-  counted_ties b tops o j hj =
-      rw (get_or-take n tops.counts j 0 hj)
-      (holders_same n (entry t n) (λ i hi. get_or-append a' b 0 i (omega (arith, solved_sized.adds_long))) (head_holders n (entry t n) (o j hj)))
+  -- The ties under the array of the additions are the ties under the additions.
+  counted_ties : (b k : List ℕ) → Ties n (entry t n) (nums (a' ++ b)) (nums k) → Ties n (entry t n) (nums a') (nums (take n k))
+  counted_ties b k o j hj =
+      rw (get_or-take n k j 0 hj)
+      (holders_same n (entry t n) (λ i hi. get_or-append a' b 0 i (omega (arith, solved_sized.adds_long))) (o j hj))
 
   -- The figures that the solver wrote, the ties, and the index figure of the additions, are those of the table.
-  solved_says : (c : List ℕ) (v : ℤ) (x : ℕ) → r ≡ Sum v → length c ≡ n → Ties n (entry t n) (nums a') (nums c) → IndexOf t a' x
+  solved_says : (c : List ℕ) (v : ℤ) (x : ℕ) → r ≡ Ok v → length c ≡ n → Ties n (entry t n) (nums a') (nums c) → IndexOf t a' x
       → TableSays n t (gives (figures a' s' z' c v x))
   solved_says c v x q lc o m = go p
     where
       go : Solves n t a s z r a' s' z' → TableSays n t (gives (figures a' s' z' c v x))
-      go (refused k low e ea es ez) = not_both v k [] (sym (ap said q) ∙ e)
+      go (refused k low e ea es ez) = not_both v k [] (sym (ap says q) ∙ e)
       go (answered w clear e la st lz f) =
           solved (figures a' s' z' c v x)
           (record {
@@ -100,17 +92,17 @@ module _ {n : ℕ} {t : List ℤ} {a s a' s' : List ℕ} {z z' : List ℤ} {r : 
             star_list = st;
             heads_long = lz;
             ties_long = lc;
-            solution = rw (given_once w v (sym e ∙ ap said q)) at f;
+            solution = rw (given_once w v (sym e ∙ ap says q)) at f;
             is_ties = o;
             is_index = rw la at m;
           }) refl
 
   -- The index figure can be worked out from the table, the additions and the heads, which stand at the front of arrays.
-  pub solved_known : (b : List ℕ) (d : List ℤ) (v : ℤ) → r ≡ Sum v → HeadsKnown t (take n (a' ++ b)) (take n (z' ++ d))
+  pub solved_known : (b : List ℕ) (d : List ℤ) (v : ℤ) → r ≡ Ok v → HeadsKnown t (take n (a' ++ b)) (take n (z' ++ d))
   solved_known b d v q = rw (take_at a' b n solved_sized.adds_long, take_at z' d n solved_sized.heads_long) (go p)
     where
       go : Solves n t a s z r a' s' z' → HeadsKnown t a' z'
-      go (refused k low e ea es ez) = not_both v k [] (sym (ap said q) ∙ e)
+      go (refused k low e ea es ez) = not_both v k [] (sym (ap says q) ∙ e)
       go (answered w c e la st lz f) =
           let found = found_within t a' s' z' (sized h.in_size).1 h.square.square h.entries f in
           record {
@@ -122,28 +114,24 @@ module _ {n : ℕ} {t : List ℤ} {a s a' s' : List ℕ} {z z' : List ℤ} {r : 
           }
 
   -- they stand at the front of arrays
-  pub front_says : (b c : List ℕ) (d : List ℤ) (tops : Tops) (v : ℤ) (x : ℕ) → r ≡ Sum v → TopsOf t n (a' ++ b) tops → n ≤ length tops.counts
+  pub front_says : (b c k : List ℕ) (d : List ℤ) (v : ℤ) (x : ℕ) → r ≡ Ok v → Ties n (entry t n) (nums (a' ++ b)) (nums k) → n ≤ length k
       → IndexOf t (take n (a' ++ b)) x
-      → TableSays n t (gives (figures (take n (a' ++ b)) (take n (s' ++ c)) (take n (z' ++ d)) (take n tops.counts) v x))
-  front_says b c d tops v x q o inside m =
+      → TableSays n t (gives (figures (take n (a' ++ b)) (take n (s' ++ c)) (take n (z' ++ d)) (take n k) v x))
+  front_says b c k d v x q o inside m =
       let w = solved_sized in
       rw (take_at a' b n w.adds_long, take_at s' c n w.stars_long, take_at z' d n w.heads_long)
-      (solved_says (take n tops.counts) v x q (length-take-le n tops.counts inside) (counted_ties b tops o)
+      (solved_says (take n k) v x q (length-take-le n k inside) (counted_ties b k o)
       (rw (take_at a' b n w.adds_long) at m))
 
   -- A refusal of the solver is refusal 6, and no complete transversal exists.
-  pub refused_says : (y : Refusal) → r ≡ Refused y → TableSays n t (refusal y)
+  pub refused_says : (y : Refusal) → r ≡ Err y → TableSays n t (refusal y)
   refused_says y q = go p
     where
       go : Solves n t a s z r a' s' z' → TableSays n t (refusal y)
       go (refused k low e ea es ez) =
           let f = only_six h l k low in
-          no_transversal f.1 (same_refusal y k [] (sym (ap said q) ∙ e) ∙ ap (λ (i : ℕ). refuses i []) f.0)
-      go (answered w c e la st lz f) = not_both w (number_of y) (values_of y) (sym e ∙ ap said q)
-
--- the front of an array that was lent and came back lies in it
-pub front_inside : {A : Type 0} {n : ℕ} (l behind : List A) → length l ≡ n → n ≤ length (l ++ behind)
-front_inside l behind e = omega (arith, length-append l behind)
+          no_transversal f.1 (same_refusal y k [] (sym (ap says q) ∙ e) ∙ ap (λ (i : ℕ). refuses i []) f.0)
+      go (answered w c e la st lz f) = not_both w (number_of y) (values_of y) (sym e ∙ ap says q)
 
 -- ---- the reader
 -- the table that a sheet says stands at the front of the reader's table
@@ -157,33 +145,33 @@ pub record Taken (s : List ℕ) (n : ℕ) (b : List ℤ) : Type 0 where
   pub inside : n * n ≤ length b
   pub small : n * n ≤ row_limit * row_limit
 
-module _ {s : List ℕ} {m m' : reading.Lent} {r : Read} (w : reading.Wanted m) (p : reading.ReadPromise s m m' (reading.says r)) where
+module _ {s : List ℕ} {m m' : reading.Lent} {r : Result ℕ Refusal} (w : reading.Wanted m) (p : reading.ReadPromise s m m' (says r)) where
   -- a sheet that the reader refuses, by 9 or by 10 since the lengths are the wanted ones
-  pub sheet_refused : (y : Refusal) → r ≡ read.Refused y → SheetSays s (refusal y)
+  pub sheet_refused : (y : Refusal) → r ≡ Err y → SheetSays s (refusal y)
   sheet_refused y q = go p
     where
-      says_this : (k : ℕ) (vs : List ℕ) → reading.says r ≡ refuses k vs → ◌≡◌ {A = Said Figures} (refusal y) (refuses k vs)
-      says_this k vs e = same_refusal y k vs (sym (ap reading.says q) ∙ e)
+      says_this : (k : ℕ) (vs : List ℕ) → says r ≡ refuses k vs → ◌≡◌ {A = Said Figures} (refusal y) (refuses k vs)
+      says_this k vs e = same_refusal y k vs (sym (ap says q) ∙ e)
 
-      lower : (k : ℕ) → First (reading.reader_tests s m) k → reading.says r ≡ refuses k [] → SheetSays s (refusal y)
+      lower : (k : ℕ) → First (reading.reader_tests s m) k → says r ≡ refuses k [] → SheetSays s (refusal y)
       lower k (inl l) e = absurd (lengths_right w l.0)
       lower k (inr (v, inl l)) e = too_long l.0 (says_this k [] e ∙ ap (λ (i : ℕ). refuses i []) l.1)
       lower k (inr (v, inr l)) e = absurd l.1
 
-      go : reading.ReadPromise s m m' (reading.says r) → SheetSays s (refusal y)
+      go : reading.ReadPromise s m m' (says r) → SheetSays s (refusal y)
       go (reading.refused k l e f) = lower k l e
       go (reading.wrong_line k c g e f) = wrong_line k c.1.0 g (says_this 10 (k ∷ []) e)
       go (reading.read t c g e f) =
-          not_both (length t.row_labels) (number_of y) (values_of y) (sym e ∙ ap reading.says q)
+          not_both (length t.row_labels) (number_of y) (values_of y) (sym e ∙ ap says q)
 
-  pub sheet_taken : (n : ℕ) → r ≡ read.Rows n → Taken s n m'.table
+  pub sheet_taken : (n : ℕ) → r ≡ Ok n → Taken s n m'.table
   sheet_taken n q = go p
     where
-      go : reading.ReadPromise s m m' (reading.says r) → Taken s n m'.table
-      go (reading.refused k l e f) = not_both n k [] (sym (ap reading.says q) ∙ e)
-      go (reading.wrong_line k v g e f) = not_both n 10 (k ∷ []) (sym (ap reading.says q) ∙ e)
+      go : reading.ReadPromise s m m' (says r) → Taken s n m'.table
+      go (reading.refused k l e f) = not_both n k [] (sym (ap says q) ∙ e)
+      go (reading.wrong_line k v g e f) = not_both n 10 (k ∷ []) (sym (ap says q) ∙ e)
       go (reading.read t v g e f) =
-          let c : n ≡ length t.row_labels = given_once n (length t.row_labels) (sym (ap reading.says q) ∙ e) in
+          let c : n ≡ length t.row_labels = given_once n (length t.row_labels) (sym (ap says q) ∙ e) in
           let st = g.stands in
           let len : length t.entries ≡ n * n = st.square ∙ ap (λ i. i * i) (sym c) in
           let x : m'.table ≡ over t.entries m.table = ap (λ i. i.table) f in

@@ -3,7 +3,7 @@
 use mathlib.Core.Path.{◌≡◌, refl, sym, ap, ◌∙◌}
 use mathlib.Core.Logic.{◌≢◌}
 use mathlib.Core.Bool.{Bool, ◌&&◌}
-use mathlib.Core.List.{List, [], ◌∷◌, flat_map}
+use mathlib.Core.List.{List, [], ◌∷◌}
 use Prim.Native.Nat.{ℕ, zero, suc, ◌-◌, ◌≤◌, ◌<◌}
 use native.Mathlib.Omega.{arith}
 use lib.Dec.{T, leb, leb→le}
@@ -45,7 +45,7 @@ unfolding ended_lines order_lines present_count text digits
 sheet_is = refl
 
 answer_is : printed (gives shown) ≡ pendulum_answer
-unfolding flat_map ended_lines text digits
+unfolding ended_lines text digits
 answer_is = refl
 
 -- "`refused 6`, or `refused 10 7` for line 7"

@@ -12,24 +12,17 @@ use Rattle.theory.specs.Canon.{NoTransversal}
 use Rattle.theory.proofs.Index.{index_once}
 use Rattle.theory.proofs.Unique.{solution_once}
 use Rattle.theory.proofs.Ties.{ties_once}
-use Rattle.orders.specs.Refusals.{number_of, values_of, Said, gives, refuses}
-use Rattle.orders.proofs.Refusals.{refusal_once, given_once, not_both}
+use Rattle.std.specs.Prelude.{Result}
+use Rattle.orders.specs.Refusals.{Said, gives, refuses, says}
+use Rattle.orders.specs.declared.Refusal.{Refusal}
+use Rattle.orders.proofs.Refusals.{says_once}
 use Rattle.sheet.specs.Text.{over}
 use Rattle.sheet.proofs.Matching.{labelled_once}
 use Rattle.sheet.proofs.FirstWrong.{first_once}
 use Rattle.page.specs.Printed.{Figures, figures, printed}
 use Rattle.printing.specs.Promise.{FiguresOf, TableSays, no_transversal, solved, SheetSays, too_long, wrong_line, of_table}
-use Rattle.printing.specs.Promise.{says, PrintPromise, no_room, wrote, InputPromise}
-use Rattle.printing.specs.declared.Printed.{Printed}
-use Rattle.printing.specs.declared.Printed.TheVariants.{Bytes, Refused}
+use Rattle.printing.specs.Promise.{PrintPromise, no_room, wrote, InputPromise}
 use Rattle.printing.proofs.Inputs.{own_input}
-
--- what is returned is known from its number and values
-pub says_once : (a b : Printed) → says a ≡ says b → a ≡ b
-says_once (Bytes n) (Bytes m) e = ap Bytes (given_once n m e)
-says_once (Bytes n) (Refused r) e = not_both n (number_of r) (values_of r) e
-says_once (Refused r) (Bytes m) e = not_both m (number_of r) (values_of r) (sym e)
-says_once (Refused r) (Refused q) e = ap Refused (refusal_once r q e)
 
 -- two star lists with the same columns are the same numbers
 star_same : (n : ℕ) (a b : List ℕ) → StarList n a → StarList n b → (i : ℕ) → i < n → columns a i ≡ columns b i → nums a i ≡ nums b i
@@ -83,7 +76,7 @@ sheet_once s a b (of_table t l r p) (of_table u m q o) =
     table_once (length u.row_labels) u.entries a b (rw c at p) o
 
 -- Uniqueness of printing: two results with two memories that both meet the statement are the same result and the same memory.
-pub print_once : (s room p q : List ℕ) (a b : Printed) → PrintPromise s room p (says a) → PrintPromise s room q (says b) → (a ≡ b) × (p ≡ q)
+pub print_once : (s room p q : List ℕ) (a b : Result ℕ Refusal) → PrintPromise s room p (says a) → PrintPromise s room q (says b) → (a ≡ b) × (p ≡ q)
 print_once s room p q a b (no_room x h l e f) (no_room y g m d k) = (says_once a b (e ∙ sym d), f ∙ sym k)
 print_once s room p q a b (no_room x h l e f) (wrote y g m d k) =
     let c : length (printed x) ≡ length (printed y) = ap (λ i. length (printed i)) (sheet_once s x y h g) in absurd (omega arith)

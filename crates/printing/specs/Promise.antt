@@ -4,20 +4,13 @@ use Rattle.theory.specs.Limits.{sheet_limit}
 use Rattle.theory.specs.Lists.{nums, ints, columns, StarList}
 use Rattle.theory.specs.Table.{entry}
 use Rattle.theory.specs.Canon.{NoTransversal, Solution, Ties, Index}
-use Rattle.orders.specs.Refusals.{Said, gives, refuses, refusal}
+use Rattle.orders.specs.Refusals.{Said, gives, refuses}
 use Rattle.sheet.specs.Text.{over}
 use Rattle.sheet.specs.Sheet.{Labelled, IsSheet, TooLong}
 use Rattle.sheet.specs.FirstWrong.{FirstWrong}
 use Rattle.lettering.specs.Putting.{Puts}
 use Rattle.page.specs.Printed.{Figures, printed}
 use Rattle.printing.specs.Room.{enough}
-use Rattle.printing.specs.declared.Printed.{Printed}
-use Rattle.printing.specs.declared.Printed.TheVariants.{Bytes, Refused}
-
--- document 01's number and values for each case: the length written, or a refusal
-abbrev pub says : Printed → Said ℕ
-says (Bytes n) = gives n
-says (Refused r) = refusal r
 
 -- the figures of a table of n rows: its simplest canon, the stars, the heads and the sum
 pub record FiguresOf (n : ℕ) (t : List ℤ) (f : Figures) : Type 0 where

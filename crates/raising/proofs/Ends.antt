@@ -1,6 +1,6 @@
 -- Where the rounds lead. Rows that stand as in the least canon from the start are final. While not all are, each round makes one more
 -- final (K); so after n rounds the last has changed nothing, or the stars given have not the greatest sum. Assumes nothing.
-use mathlib.Core.Path.{◌≡◌, sym}
+use mathlib.Core.Path.{◌≡◌, refl, sym}
 use mathlib.Core.Bool.{Bool, true, false}
 use mathlib.Core.List.{List}
 use mathlib.Core.Logic.{◌⊎◌, inl, inr}
@@ -9,6 +9,8 @@ use native.Mathlib.Nat.{mul-le-mul_left, mul-le-mul_right}
 use native.Mathlib.Decide.{ℕ_discrete, dec_lt}
 use native.Mathlib.Omega.{arith}
 use lib.IntN.{ℤ}
+use Rattle.std.specs.Prelude.{Some}
+use Rattle.std.specs.Bool.{then_some}
 use Rattle.theory.specs.Totals.{totalℕ}
 use Rattle.theory.specs.Limits.{row_limit, order_limit, addition_limit}
 use Rattle.theory.specs.Lists.{nums}
@@ -20,8 +22,7 @@ use Rattle.theory.proofs.Signed.{raised_le_ud}
 use Rattle.theory.proofs.Duality.{greatest_maxima, maxima_everywhere}
 use Rattle.theory.proofs.Paths.{leads_out, some_at_start}
 use Rattle.orders.specs.Places.{ceiling}
-use Rattle.orders.proofs.Entries.{clash}
-use Rattle.raising.specs.declared.Raising.{Raising}
+use Rattle.orders.specs.Held.{LeastBy}
 use Rattle.raising.specs.Climbed.{Climbed}
 use Rattle.raising.specs.Rounds.{Round}
 
@@ -161,19 +162,27 @@ height_low n r small le =
     let low : n * (2 * order_limit) ≤ row_limit * (2 * order_limit) = omega arith in
     omega (arith, mul-le-mul_right (n * (2 * order_limit)) few, mul-le-mul_left (row_limit + 1) low)
 
-pub before_ample : {n r : ℕ} {a : ℕ → ℕ → ℤ} {σ start l : ℕ → ℕ} → n ≤ row_limit → r ≤ n → BeforeRound order_limit addition_limit n a σ start r l
-    → (i : ℕ) → i < n → l i + n * (2 * order_limit) ≤ ceiling
-before_ample {n} {r} small le s i hi = omega (arith, s.bounded i hi, height_low n (r + 1) small (omega arith))
-
 -- The rounds are over when one changed nothing, or n have been made.
-pub climbed : {t : List ℤ} {n r : ℕ} {start column_of : List ℕ} {s : Raising} → n ≤ row_limit → r ≤ n + 1
-    → AfterRound order_limit addition_limit n (entry t n) (nums column_of) (nums start) r s.ended (nums s.additions) → (s.ended ≡ true) ⊎ (n ≤ r)
-    → Climbed t n start column_of s
-climbed {t} {n} {r} {start} {column_of} {s} small le w over =
-    record {
-      least = λ q. record {
-        least = ends order_limit addition_limit n (entry t n) (nums column_of) (nums start) w q;
-        canon = record { of_maxima = w.done q; under_ceiling = λ i hi. omega (arith, w.bounded i hi, height_low n r small le) };
-      };
-      exceeded = λ q. elim over [ inl p ↦ clash p q | inr all ↦ fails order_limit addition_limit n (entry t n) (nums column_of) (nums start) w q all ];
-    }
+module _ {t : List ℤ} {n r : ℕ} {start column_of : List ℕ} (l : List ℕ) {e : Bool} (small : n ≤ row_limit) (le : r ≤ n + 1)
+    (w : AfterRound order_limit addition_limit n (entry t n) (nums column_of) (nums start) r e (nums l)) where
+  pub climbed_ended : e ≡ true → Climbed t n start column_of (Some l)
+  climbed_ended q = record { least = λ m f. let same : l ≡ m = cc in rw (sym same) least; exceeded = λ f. cc }
+    where
+      least : LeastBy t n (nums start) l column_of
+      least =
+          record {
+            least = ends order_limit addition_limit n (entry t n) (nums column_of) (nums start) w q;
+            canon = record { of_maxima = w.done q; under_ceiling = λ i hi. omega (arith, w.bounded i hi, height_low n r small le) };
+          }
+
+  -- the last round, after which n have been made
+  pub climbed_last : n ≤ r → Climbed t n start column_of (then_some e l)
+  climbed_last all = last e refl
+    where
+      last : (b : Bool) → e ≡ b → Climbed t n start column_of (then_some b l)
+      last true q = climbed_ended q
+      last false q =
+          record {
+            least = λ m f. cc;
+            exceeded = λ f. fails order_limit addition_limit n (entry t n) (nums column_of) (nums start) w q all;
+          }

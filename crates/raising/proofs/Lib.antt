@@ -1,3 +1,2 @@
-pub mod Heights
 pub mod Steps
 pub mod Ends

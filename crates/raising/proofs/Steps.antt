@@ -17,18 +17,6 @@ use Rattle.orders.proofs.Entries.{clash}
 use Rattle.orders.proofs.Stores.{Put}
 use Rattle.raising.specs.Rounds.{Round}
 
--- before the first row nothing is changed
-pub round_none : (limit n : ℕ) (a : ℕ → ℕ → ℤ) (σ l : ℕ → ℕ) → Round limit n a σ l 0 true l
-round_none limit n a σ l =
-    record {
-      grows = λ i hi. omega arith;
-      reaches = λ i x hi. absurd (omega arith);
-      below = λ m c le. le;
-      near = λ b le i hi. omega (arith, le i hi);
-      still = λ e i hi. refl;
-      moved = λ e. clash refl e;
-    }
-
 -- no addition passes the ceiling in a round that has it ample
 pub round_under : {limit n k : ℕ} {a : ℕ → ℕ → ℤ} {σ l next : ℕ → ℕ} {e : Bool} → Round limit n a σ l k e next → k ≤ n
     → ((i : ℕ) → i < n → l i + n * (2 * limit) ≤ ceiling) → (i : ℕ) → i < n → next i ≤ ceiling

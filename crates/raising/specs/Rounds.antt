@@ -4,7 +4,7 @@ use Rattle.theory.specs.Lists.{nums}
 use Rattle.theory.specs.Table.{Present, entry, Entries}
 use Rattle.theory.specs.Canon.{raised, OfMaxima, AtMost, Transversal}
 use Rattle.theory.specs.Limits.{order_limit}
-use Rattle.orders.specs.Places.{ceiling, Square, UnderCeiling}
+use Rattle.orders.specs.Places.{ceiling, UnderCeiling}
 
 -- the first k rows of a round from the additions l, of a table a whose orders are within the limit: rows are raised and never
 -- lowered; each of the k is raised to what the others had in its column before the round; no row passes a canon's addition; k rows
@@ -21,18 +21,16 @@ pub record Round (limit n : ℕ) (a : ℕ → ℕ → ℤ) (σ l : ℕ → ℕ) 
 abbrev pub Ample : ℕ → ℕ → List ℕ → Type 0
 Ample limit n l = (i : ℕ) → i < n → nums l i + n * (2 * limit) ≤ ceiling
 
--- what a row's wanted addition is reckoned from: a tested table, additions under the ceiling, and a present place
+-- what a row's wanted addition is reckoned from: tested entries, additions under the ceiling, and a present place
 pub record Wanting (t : List ℤ) (n : ℕ) (l : List ℕ) (column i : ℕ) : Type 0 where
-  pub square : Square t n
   pub entries : Entries order_limit t
   pub under_ceiling : UnderCeiling n l
   pub inside : column < n
   pub row : i < n
   pub present : Present (entry t n i column)
 
--- what a round begins with: a tested table, a transversal, and additions that leave a round under the ceiling
+-- what a round begins with: tested entries, a transversal, and additions that leave a round under the ceiling
 pub record Rounding (t : List ℤ) (n : ℕ) (column_of l : List ℕ) : Type 0 where
-  pub square : Square t n
   pub entries : Entries order_limit t
   pub transversal : Transversal n (entry t n) (nums column_of)
   pub ample : Ample order_limit n l

@@ -19,7 +19,8 @@ use Rattle.sheet.proofs.Slots.{slots_length, labels_short}
 use Rattle.sheet.proofs.Matching.{read_is_written}
 use Rattle.sheet.proofs.FirstWrong.{wrong_is_first}
 use Rattle.lines.specs.Parts.{Holding}
-use Rattle.lines.proofs.KeepLaws.{take_replicate}
+use Rattle.std.proofs.lemmas.List.{take-replicate}
+use Rattle.lines.specs.declared.Kept.{Kept}
 use Rattle.reader.specs.Parts.{Ends}
 use Rattle.reader.specs.Promise.{Lent, lent, Wanted, slices, reader_tests, ReadPromise, refused, wrong_line, read}
 use Rattle.reader.proofs.WalkLaws.{places_few}
@@ -53,7 +54,7 @@ table_front e k h g =
     let q : k ≡ length e + (k - length e) = omega arith in
     ap (λ i. take i (e ++ replicate (row_limit * row_limit - length e) absent)) q
     ∙ take-append-add e (replicate (row_limit * row_limit - length e) absent) (k - length e)
-    ∙ ap (λ x. e ++ x) (take_replicate (k - length e) (row_limit * row_limit - length e) absent (omega arith))
+    ∙ ap (λ x. e ++ x) (take-replicate (k - length e) (row_limit * row_limit - length e) absent (omega arith))
 
 -- the first bytes of a label buffer are the labels'
 labels_front : (b : List ℕ) (ls : List (List ℕ)) → Holding b ls → Labels ls → take (width * length ls) b ≡ slots ls
@@ -72,8 +73,8 @@ copied_labels b room ls n e h p =
     ∙ copied (slots ls) b room (width * length ls) (slots_length ls (labels_short ls p)) (labels_front b ls h p)
 
 -- a good sheet, whose table and labels were copied out
-module _ {s : List ℕ} {n : ℕ} {t : List ℤ} {a b : List ℕ} (e : Ends s n t a b) (m : Lent) where
-  copied_table : take (n * n) t ++ drop (n * n) m.table ≡ over (table_of e.st).entries m.table
+module _ {s : List ℕ} {n : ℕ} {kept : Kept} (e : Ends s n kept) (m : Lent) where
+  copied_table : take (n * n) kept.table ++ drop (n * n) m.table ≡ over (table_of e.st).entries m.table
   copied_table =
       let st = e.st in
       let sq : length (table_of st).entries ≡ n * n =
@@ -83,21 +84,22 @@ module _ {s : List ℕ} {n : ℕ} {t : List ℤ} {a b : List ℕ} (e : Ends s n 
         arith,
         length-append st.entries (replicate (length st.row_labels * length st.row_labels - length st.entries) absent),
       ) in
-      copied (table_of st).entries t m.table (n * n) sq
+      copied (table_of st).entries kept.table m.table (n * n) sq
       (ap (λ x. take (n * n) x) e.held.table_held
       ∙ table_front st.entries (n * n) fit (places_few e)
       ∙ ap (λ x. st.entries ++ replicate (x * x - length st.entries) absent) (sym e.rows_are))
 
-  pub read_good : Wanted m → length s ≤ sheet_limit → (t' : List ℤ) (a' b' : List ℕ)
-      → t' ≡ take (n * n) t ++ drop (n * n) m.table
-      → a' ≡ take (width * n) a ++ drop (width * n) m.row_labels
-      → b' ≡ take (width * n) b ++ drop (width * n) m.col_labels → ReadPromise s m (lent t' a' b') (gives n)
-  read_good w few t' a' b' p q u =
+  pub read_good : Wanted m → length s ≤ sheet_limit → (t : List ℤ) (r c : List ℕ) → t ≡ take (n * n) kept.table → r ≡ take (width * n) kept.rows
+      → c ≡ take (width * n) kept.cols
+      → ReadPromise s m (lent (t ++ drop (n * n) m.table) (r ++ drop (width * n) m.row_labels) (c ++ drop (width * n) m.col_labels)) (gives n)
+  read_good w few t r c p q u =
       let st = e.st in
       let h = e.held in
-      let x : t' ≡ over (table_of st).entries m.table = p ∙ copied_table in
-      let y : a' ≡ over (slots st.row_labels) m.row_labels =
-      q ∙ copied_labels a m.row_labels st.row_labels n e.rows_are h.rows_held h.rows_stand in
-      let z : b' ≡ over (slots st.col_labels) m.col_labels =
-      u ∙ copied_labels b m.col_labels st.col_labels n e.cols_are h.cols_held h.cols_stand in
+      let x : t ++ drop (n * n) m.table ≡ over (table_of e.st).entries m.table = ap (λ y. y ++ drop (n * n) m.table) p ∙ copied_table in
+      let y : r ++ drop (width * n) m.row_labels ≡ over (slots st.row_labels) m.row_labels =
+      ap (λ y. y ++ drop (width * n) m.row_labels) q
+      ∙ copied_labels kept.rows m.row_labels st.row_labels n e.rows_are h.rows_held h.rows_stand in
+      let z : c ++ drop (width * n) m.col_labels ≡ over (slots st.col_labels) m.col_labels =
+      ap (λ y. y ++ drop (width * n) m.col_labels) u
+      ∙ copied_labels kept.cols m.col_labels st.col_labels n e.cols_are h.cols_held h.cols_stand in
       read (table_of st) (all_clear s m w few) (read_is_written s (table_of st) e.read) (ap gives (sym e.rows_are)) (λ i. lent (x i) (y i) (z i))

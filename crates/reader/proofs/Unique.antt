@@ -3,20 +3,13 @@ use mathlib.Core.Path.{◌≡◌, sym, ap, ◌∙◌}
 use mathlib.Core.List.{List, [], ◌∷◌}
 use Prim.Native.Nat.{ℕ}
 use lib.ListN.{length}
-use Rattle.orders.specs.Refusals.{number_of, values_of, Said, gives, refuses}
-use Rattle.orders.proofs.Refusals.{first_clear, refused_once, refusal_once, given_once, not_both}
+use Rattle.std.specs.Prelude.{Result}
+use Rattle.orders.specs.declared.Refusal.{Refusal}
+use Rattle.orders.specs.Refusals.{Said, gives, refuses, says}
+use Rattle.orders.proofs.Refusals.{first_clear, refused_once, says_once}
 use Rattle.sheet.proofs.Matching.{labelled_once}
 use Rattle.sheet.proofs.FirstWrong.{first_once}
-use Rattle.reader.specs.declared.Read.{Read}
-use Rattle.reader.specs.declared.Read.TheVariants.{Rows, Refused}
-use Rattle.reader.specs.Promise.{says, Lent, reader_tests, written, ReadPromise, refused, wrong_line, read}
-
--- an answer of the reader is known from its number and values
-pub says_once : (a b : Read) → says a ≡ says b → a ≡ b
-says_once (Rows n) (Rows m) e = ap Rows (given_once n m e)
-says_once (Rows n) (Refused r) e = not_both n (number_of r) (values_of r) e
-says_once (Refused r) (Rows m) e = not_both m (number_of r) (values_of r) (sym e)
-says_once (Refused r) (Refused q) e = ap Refused (refusal_once r q e)
+use Rattle.reader.specs.Promise.{Lent, reader_tests, written, ReadPromise, refused, wrong_line, read}
 
 pub record Same (a b : Said ℕ) (m n : Lent) : Type 0 where
   pub answer : a ≡ b
@@ -41,6 +34,6 @@ promise_once s m p q a b (read t c r e f) (read t' c' r' e' f') =
     }
 
 -- Uniqueness of the reader: two results with two memories that both meet the statement are the same result and the same memory.
-pub read_once : (s : List ℕ) (m p q : Lent) (a b : Read) → ReadPromise s m p (says a) → ReadPromise s m q (says b) → (a ≡ b) × (p ≡ q)
+pub read_once : (s : List ℕ) (m p q : Lent) (a b : Result ℕ Refusal) → ReadPromise s m p (says a) → ReadPromise s m q (says b) → (a ≡ b) × (p ≡ q)
 read_once s m p q a b f g =
     let r = promise_once s m p q (says a) (says b) f g in (says_once a b r.answer, r.memory)

@@ -1,18 +1,11 @@
 -- The reader's promise.
 use Rattle.std.specs.Prelude.{◌≡◌, List, [], ◌∷◌, ℕ, ◌*◌, ℤ, length}
 use Rattle.theory.specs.Limits.{row_limit}
-use Rattle.orders.specs.Refusals.{Said, gives, refuses, refusal, Test, ◌given_when◌, First, Clear, Slice, ◌wanted◌, WrongLength}
+use Rattle.orders.specs.Refusals.{Said, gives, refuses, Test, ◌given_when◌, First, Clear, Slice, ◌wanted◌, WrongLength}
 use Rattle.sheet.specs.Text.{over}
 use Rattle.sheet.specs.Labels.{width, slots}
 use Rattle.sheet.specs.Sheet.{Labelled, IsSheet, TooLong}
 use Rattle.sheet.specs.FirstWrong.{FirstWrong}
-use Rattle.reader.specs.declared.Read.{Read}
-use Rattle.reader.specs.declared.Read.TheVariants.{Rows, Refused}
-
--- document 01's number and values for each case: "The reader returns N"
-abbrev pub says : Read → Said ℕ
-says (Rows n) = gives n
-says (Refused r) = refusal r
 
 -- what is lent to the reader
 pub record Lent : Type 0 where

@@ -1,5 +1,5 @@
 -- What the rounds of route 3 and growth from zeros tell of a transversal. Assumes nothing.
-use mathlib.Core.Path.{◌≡◌, refl}
+use mathlib.Core.Path.{◌≡◌, refl, sym}
 use mathlib.Core.Logic.{◌⊎◌, inl, inr}
 use mathlib.Core.Bool.{Bool, true, false}
 use mathlib.Core.List.{List}
@@ -8,21 +8,20 @@ use native.Mathlib.Omega.{arith}
 use lib.IntN.{ℤ, ℤ_discrete}
 use lib.ListN.{replicate}
 use lib.Signed.{lt_z}
+use Rattle.std.specs.Prelude.{Option, None, Ok, Err}
 use Rattle.theory.specs.Limits.{row_limit}
 use Rattle.theory.specs.Lists.{nums}
 use Rattle.theory.specs.Table.{absent, Present, entry}
-use Rattle.theory.specs.Canon.{Transversal, LeastFrom, Greatest, Misplaced, on_absent, exceeded, sum}
+use Rattle.theory.specs.Canon.{Transversal, Greatest, Misplaced, on_absent, exceeded, sum}
 use Rattle.theory.proofs.Pigeonhole.{exists}
 use Rattle.theory.proofs.Signed.{signed}
 use Rattle.theory.proofs.Duality.{maxima_greatest}
-use Rattle.orders.specs.Held.{Startable}
-use Rattle.orders.proofs.Entries.{clash}
+use Rattle.orders.specs.Places.{Square}
+use Rattle.orders.specs.Held.{Startable, LeastBy}
+use Rattle.orders.specs.declared.Refusal.TheVariants.{NotGreatest}
 use Rattle.orders.proofs.Zeros.{zero_start, zero_least}
-use Rattle.growth.specs.Grown.{GrownFrom}
-use Rattle.growth.specs.declared.Grown.{Grown}
 use Rattle.raising.specs.Climbed.{Climbed}
-use Rattle.raising.specs.declared.Raising.{Raising}
-use Rattle.routes.specs.Routes.{GivenColumns, RaisedFrom}
+use Rattle.routes.specs.Routes.{GivenColumns, RaisedFrom, Raises}
 
 module _ (n : ℕ) (a : ℕ → ℕ → ℤ) where
   -- a transversal whose places are not all present has one on an absent place
@@ -46,44 +45,37 @@ module _ (n : ℕ) (a : ℕ → ℕ → ℤ) where
   well_placed g (on_absent i hi e) = g.transversal.present i hi e
   well_placed {σ} g (exceeded τ t lt) = omega (arith, signed, g.greatest τ t)
 
-module _ {t : List ℤ} {n : ℕ} {column_of : List ℕ} (g : GivenColumns t n column_of) where
-  pub from_zeros : Startable t n (replicate row_limit 0)
-  from_zeros = record { square = g.square; entries = g.entries; handed_in = λ i hi. zero_start _ i }
+module _ {t : List ℤ} {n : ℕ} {column_of : List ℕ} where
+  pub from_zeros : GivenColumns t n column_of → Square t n → Startable t n (replicate row_limit 0)
+  from_zeros g sq = record { square = sq; entries = g.entries; handed_in = λ i hi. zero_start _ i }
 
-  pub transversal_of : ((i : ℕ) → i < n → Present (entry t n i (nums column_of i))) → Transversal n (entry t n) (nums column_of)
-  transversal_of p = record { inside = g.inside; present = p; apart = g.apart }
+  pub transversal_of : GivenColumns t n column_of → ((i : ℕ) → i < n → Present (entry t n i (nums column_of i)))
+      → Transversal n (entry t n) (nums column_of)
+  transversal_of g p = record { inside = g.inside; present = p; apart = g.apart }
 
   -- the rounds ended
-  pub raised_ended : {r : Raising} → Climbed t n (replicate row_limit 0) column_of r → r.ended ≡ true
-      → RaisedFrom t n column_of (record { found = true; greatest = true; additions = r.additions })
-  raised_ended {r} c e =
-      let of_maxima = (c.least e).canon.of_maxima in
-      record {
-        none = λ f. clash refl f;
-        exists = λ f. (nums column_of, of_maxima.transversal);
-        misplaced = λ f h. clash refl h;
-        placed = λ h. well_placed n (entry t n) (maxima_greatest n (entry t n) of_maxima);
-        least = λ h. zero_least (c.least e);
-      }
+  pub raised_ended : {l : List ℕ} → LeastBy t n (nums (replicate row_limit 0)) l column_of → RaisedFrom t n column_of (Ok l)
+  raised_ended {l} w = record { raised = λ m e. let h : l ≡ m = cc in rw (sym h) raises; refused = λ q e. cc; exists = λ e. cc }
+    where
+      raises : Raises t n column_of l
+      raises = record { placed = well_placed n (entry t n) (maxima_greatest n (entry t n) w.canon.of_maxima); least = zero_least w }
 
   -- they did not, or a place is absent: growth from zeros tells whether there is a transversal at all
-  pub raised_failed : {w : Grown} (l : List ℕ) → GrownFrom t n (replicate row_limit 0) w
-      → ((m τ : ℕ → ℕ) → LeastFrom n (entry t n) (nums (replicate row_limit 0)) m → Greatest n (entry t n) τ → Misplaced n (entry t n) (nums column_of))
-      → RaisedFrom t n column_of (record { found = w.found; greatest = false; additions = l })
-  raised_failed {w} l grown wrong =
-      record {
-        none = grown.none;
-        exists = λ f. (nums w.columns, (grown.found f).canon.of_maxima.transversal);
-        misplaced = λ f h.
-            let p = grown.found f in
-            wrong _ _ p.least (maxima_greatest n (entry t n) p.canon.of_maxima);
-        placed = λ h. clash h refl;
-        least = λ h. clash h refl;
-      }
+  module _ {l columns : List ℕ} (w : LeastBy t n (nums (replicate row_limit 0)) l columns) where
+    refused_for : Misplaced n (entry t n) (nums column_of) → RaisedFrom t n column_of (Err NotGreatest)
+    refused_for wrong =
+        record {
+          raised = λ m e. cc;
+          refused = λ q e.
+              let h : NotGreatest ≡ q = cc in
+              rw (sym h) (inr ((λ none. none _ w.canon.of_maxima.transversal), inl (wrong, refl)), refl);
+          exists = λ e. (nums columns, w.canon.of_maxima.transversal);
+        }
 
-  pub endless : {r : Raising} → Climbed t n (replicate row_limit 0) column_of r → r.ended ≡ false → Transversal n (entry t n) (nums column_of)
-      → (m τ : ℕ → ℕ) → LeastFrom n (entry t n) (nums (replicate row_limit 0)) m → Greatest n (entry t n) τ → Misplaced n (entry t n) (nums column_of)
-  endless c e tr m τ s gr = not_greatest n (entry t n) tr gr (c.exceeded e m s)
+    pub raised_endless : {r : Option (List ℕ)} → Climbed t n (replicate row_limit 0) column_of r → r ≡ None
+        → Transversal n (entry t n) (nums column_of) → RaisedFrom t n column_of (Err NotGreatest)
+    raised_endless c e tr =
+        refused_for (not_greatest n (entry t n) tr (maxima_greatest n (entry t n) w.canon.of_maxima) (c.exceeded e (nums l) w.least))
 
-  pub absent_place : (((i : ℕ) → i < n → Present (entry t n i (nums column_of i))) → ⊥) → Misplaced n (entry t n) (nums column_of)
-  absent_place f = some_absent n (entry t n) (nums column_of) f
+    pub raised_absent : (((i : ℕ) → i < n → Present (entry t n i (nums column_of i))) → ⊥) → RaisedFrom t n column_of (Err NotGreatest)
+    raised_absent f = refused_for (some_absent n (entry t n) (nums column_of) f)

@@ -2,11 +2,10 @@
 use mathlib.Core.Path.{◌≡◌, refl, sym, ap, subst, ◌∙◌}
 use mathlib.Core.Bool.{Bool, true, false, cond}
 use mathlib.Core.List.{List, [], ◌∷◌, ◌++◌, append-nil}
-use Prim.Native.Nat.{ℕ, zero, suc, ◌+◌, ◌-◌, ◌<◌}
+use Prim.Native.Nat.{ℕ, zero, suc, ◌-◌, ◌<◌}
 use native.Mathlib.Omega.{arith}
-use native.Mathlib.Numerals.{add-one}
-use lib.ListN.{length, get_or, take, drop, set, length-drop}
-use lib.Seq.{take_all, drop_at, drop-cons, set_at, take-suc, length-take-le, append_snoc}
+use lib.ListN.{length, get_or, take, drop, length-drop}
+use lib.Seq.{take_all, drop_at}
 use Rattle.sheet.specs.Text.{Each}
 
 -- two tests that agree case by case
@@ -72,12 +71,3 @@ front_once P a x b y p r q t e =
     let f : (z : List ℕ) × (b ≡ a ++ z) × (x ≡ z ++ y) = run_prefix P a x b y p t e in
     let n : f.0 ≡ [] = no_more P f.0 x y (each_right P a f.0 (subst (λ l. Each P l) f.1 r)) q f.2 in
     (sym (f.1 ∙ ap (λ l. a ++ l) n ∙ append-nil a), f.2 ∙ ap (λ l. l ++ y) n)
-
--- a loop that copies the front of s over d
-pub copy_next : {A : Type 0} (s d : List A) (i : ℕ) (z : A) → i < length s → i < length d
-    → set (take i s ++ drop i d) i (get_or s i z) ≡ take (i + 1) s ++ drop (i + 1) d
-copy_next s d i z p q =
-    rw add-one
-    (ap (λ l. set (take i s ++ l) i (get_or s i z)) (drop-cons d i z q)
-    ∙ set_at (take i s) (get_or d i z) (drop (suc i) d) (get_or s i z) i (length-take-le i s (omega arith))
-    ∙ sym (append_snoc (take i s) (get_or s i z) (drop (suc i) d)) ∙ ap (λ l. l ++ drop (suc i) d) (sym (take-suc s i z p)))

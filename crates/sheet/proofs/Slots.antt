@@ -141,8 +141,3 @@ pub letter_high : (b : ℕ) → LetterOrDigit b → b ≤ 122
 letter_high b (digit g h) = omega arith
 letter_high b (capital g h) = omega arith
 letter_high b (small g h) = h
-
--- a part of a buffer from 8 × k on is the place of label k
-pub part_slot : (b : List ℕ) (from to k : ℕ) → from ≡ width * k → to ≡ from + width → take (to - from) (drop from b) ≡ slot b k
-part_slot b from to k e f =
-    let g : to - from ≡ width = omega arith in ap (λ x. take x (drop from b)) g ∙ ap (λ x. take width (drop x b)) e

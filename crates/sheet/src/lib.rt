@@ -1,79 +1,28 @@
 #![tactic(auto)]
 
-ghost use Rattle.std.specs.Prelude.{◌≡◌};
 ghost use Rattle.orders.specs.Tested.{Tells};
-ghost use Rattle.sheet.specs.Labels.{LetterOrDigit, Form, Repeated};
+ghost use Rattle.sheet.specs.Labels.{Form, Repeated};
 
 // "8 bytes a label"
 pub const WIDTH: usize = 8;
 
 // The bytes that part a sheet: the end of a line, the one between fields, the one before a number below 0.
-pub const FEED: u8 = 10;
+pub const FEED: u8 = b'\n';
 
-pub const BLANK: u8 = 32;
+pub const BLANK: u8 = b' ';
 
-pub const MINUS: u8 = 45;
+pub const MINUS: u8 = b'-';
 
-// Is a byte a letter or a digit? Rules out bytes beside those three runs.
-fn letter_or_digit(b: u8) -> bool
-    ensures { Tells result (LetterOrDigit b) }
-{
-    if b < 48 {
-        return false;
-    }
-    if b <= 57 {
-        return true;
-    }
-    if b < 65 {
-        return false;
-    }
-    if b <= 90 {
-        return true;
-    }
-    if b < 97 {
-        return false;
-    }
-    b <= 122
-}
-
-// Has a text the form of a label? Rules out an empty text, one of nine bytes, and a byte passed over.
+// Has a text the form of a label? Rules out an empty text, one of nine bytes, a byte beside the letters and digits, and a byte passed over.
 pub fn label_stands(l: &[u8]) -> bool
     ensures { Tells result (Form l.now) }
 {
-    if l.len() == 0 {
-        return false;
-    }
-    if WIDTH < l.len() {
-        return false;
-    }
-    let mut i = 0;
-    while i < l.len() {
-        if !letter_or_digit(l[i]) {
-            return false;
-        }
-        i += 1;
-    }
-    true
+    !l.is_empty() && l.len() <= WIDTH && l.iter().all(|b| b.is_ascii_alphanumeric())
 }
 
-// Are two texts the same? Rules out a text taken for a longer one that begins with it.
-fn same_text(a: &[u8], b: &[u8]) -> bool
-    ensures { Tells result (a.now ≡ b.now) }
-{
-    if a.len() != b.len() {
-        return false;
-    }
-    let mut i = 0;
-    while i < a.len() {
-        if a[i] != b[i] {
-            return false;
-        }
-        i += 1;
-    }
-    true
-}
-
-// Do the 8 bytes of label k stand in an earlier place too? Rules out an earlier place passed over.
+// Do the 8 bytes of label k stand in an earlier place too? Rules out an earlier place passed over, and a label taken for another that
+// begins like it. The places are reckoned here and no buffer of N labels is asked: the reader asks while its labels still
+// come, and knows no N for those of the rows.
 pub fn repeated(labels: &[u8], k: usize) -> bool
     ensures { Tells result (Repeated labels.now k) }
 {
@@ -81,15 +30,12 @@ pub fn repeated(labels: &[u8], k: usize) -> bool
         return false;
     }
     let at = WIDTH * k;
-    let end = at + WIDTH;
-    let mut i = 0;
-    while i < k {
-        let from = WIDTH * i;
-        let to = from + WIDTH;
-        if same_text(&labels[from..to], &labels[at..end]) {
+    let label = &labels[at..at + WIDTH];
+    for i in 0..k {
+        let start = WIDTH * i;
+        if &labels[start..start + WIDTH] == label {
             return true;
         }
-        i += 1;
     }
     false
 }

@@ -4,174 +4,114 @@
 #![tactic(auto)]
 
 use orders::Refusal;
-use reader::Read;
 use std::env::FillError;
 use std::fs::File;
 use std::rt::{Env, Files};
 use std::{io, str};
-use streams::{Reading, read_input};
-use writer::Written;
+use streams::read_input;
+
+// Room for what is lent, and for a file.
+const TABLE: usize = 1100;
+
+const LABELS: usize = 300;
+
+const ROOM: usize = 12400;
 
 // One number more in a mix.
-fn mixed(h: u32, x: u32) -> u32 {
-    let a = (h % 65521) * 31;
-    let b = x % 65536;
-    (a + b + 1) % 65521
+fn mixed(mix: u32, number: u32) -> u32 {
+    ((mix % 65521) * 31 + number % 65536 + 1) % 65521
 }
 
-fn wide(x: u8) -> u32 {
-    x as u32
+// A mix of all values, each made a number.
+fn mix<T: Copy, F: Fn(T) -> u32>(values: &[T], number: F) -> u32
+    requires { F.IsAlwaysCallable number }
+{
+    values
+        .iter()
+        .fold(0, |mix, value| mixed(mix, number(*value)))
 }
 
-fn mix_bytes(s: &[u8]) -> u32 {
-    let mut h: u32 = 0;
-    let mut i = 0;
-    while i < s.len() {
-        h = mixed(h, wide(s[i]));
-        i += 1;
-    }
-    h
-}
-
-// An entry, raised by 32,768.
-fn raised(v: i16) -> u32 {
-    let w = v as i32;
-    let r = w + 32768;
-    r as u32
-}
-
-fn mix_entries(t: &[i16]) -> u32 {
-    let mut h: u32 = 0;
-    let mut i = 0;
-    while i < t.len() {
-        let v = t[i];
-        h = mixed(h, raised(v));
-        i += 1;
-    }
-    h
-}
-
-fn mix_table(t: &[i16; 1100]) -> u32 {
-    mix_entries(t)
-}
-
-fn mix_labels(s: &[u8; 300]) -> u32 {
-    mix_bytes(s)
-}
-
-fn mix_room(s: &[u8; 12400]) -> u32 {
-    mix_bytes(s)
-}
-
-// What is lent, filled with sevens.
-fn table_room() -> [i16; 1100] {
-    [7i16; 1100]
-}
-
-fn label_room() -> [u8; 300] {
-    [7u8; 300]
-}
-
-fn sheet_room() -> [u8; 12400] {
-    [7u8; 12400]
-}
-
-fn long(x: u32) -> u64 {
-    x as u64
-}
-
-fn print(rt: &impl Print, word: &[u8], v: u64) -> io::Result<()> {
-    rt.write_all(word)?;
-    rt.print(v)
-}
-
-fn print_refusal(rt: &impl Print, r: Refusal) -> io::Result<()> {
-    let line = match r {
-        Refusal::Line(k) => Some(k as u64),
-        _ => None,
+// Prints what a call answers: a word with the number, or the refusal's number with its line.
+fn print_answer(rt: &impl Print, word: &str, answer: Result<usize, Refusal>) -> io::Result<()> {
+    let refusal = match answer {
+        Ok(count) => return print!(rt; " {word} {count}"),
+        Err(refusal) => refusal,
     };
-    print(rt, b" refused ", long(orders::number(r)))?;
-    match line {
-        Some(k) => print(rt, b" ", k),
-        None => print(rt, b" line ", 0),
+    print!(rt; " refused {}", refusal.number())?;
+    match refusal {
+        Refusal::Line(line) => print!(rt; " {line}"),
+        _ => print!(rt; " line 0"),
     }
 }
 
-// The two bytes from a place on, or 0.
-fn pair(s: &[u8], at: usize) -> usize {
-    if s.len() < 2 {
-        return 0;
+// The next N numbers of a call, two bytes each, the higher first; the call is then what is behind them.
+fn numbers<const N: usize>(call: &mut &[u8]) -> Option<[usize; N]> {
+    let mut numbers = [0usize; N];
+    for number in &mut numbers {
+        let (pair, rest) = call.split_first_chunk::<2>()?;
+        *call = rest;
+        *number = usize::from(u16::from_be_bytes(*pair));
     }
-    if s.len() - 2 < at {
-        return 0;
-    }
-    let high = wide(s[at]) % 256;
-    let low = wide(s[at + 1]) % 256;
-    (high * 256 + low) as usize
+    Some(numbers)
 }
 
-// The entry that two bytes say.
-fn lowered(x: usize) -> i16 {
-    let w = (x % 65536) as i32;
-    let r = w - 32768;
-    r as i16
-}
-
-// The first entries of a call from a place on.
-fn entries(s: &[u8], at: usize, count: usize) -> [i16; 1100] {
-    let mut t = table_room();
-    let mut i = 0;
-    while i < count {
-        if i == 1100 {
-            return t;
-        }
-        let v = lowered(pair(s, at % 16384 + 2 * i));
-        t[i] = v;
-        i += 1;
+// The entries that the bytes say, two bytes each, raised by 32,768, and sevens behind them.
+fn entries(bytes: &[u8]) -> [i16; TABLE] {
+    let mut table = [7i16; TABLE];
+    let (pairs, _) = bytes.as_chunks::<2>();
+    for (entry, pair) in table.iter_mut().zip(pairs) {
+        *entry = i16::MIN.wrapping_add_unsigned(u16::from_be_bytes(*pair));
     }
-    t
+    table
 }
 
-fn read_call(rt: &impl Print, s: &[u8]) -> io::Result<()> {
-    let t = pair(s, 1) % 1101;
-    let r = pair(s, 3) % 301;
-    let c = pair(s, 5) % 301;
-    if s.len() < 7 {
+fn read_call(rt: &impl Print, mut sheet: &[u8]) -> io::Result<()> {
+    let Some(lengths) = numbers::<3>(&mut sheet) else {
+        return Ok(());
+    };
+    let [places, row_bytes, column_bytes] = lengths;
+    let mut table = [7i16; TABLE];
+    let mut rows = [7u8; LABELS];
+    let mut cols = [7u8; LABELS];
+    let answer = reader::read_sheet(
+        sheet,
+        &mut table[..places % (TABLE + 1)],
+        &mut rows[..row_bytes % (LABELS + 1)],
+        &mut cols[..column_bytes % (LABELS + 1)],
+    );
+    print_answer(rt, "rows", answer)?;
+    print!(rt;
+        " table {}",
+        mix(&table, |order| u32::from(order.abs_diff(i16::MIN)))
+    )?;
+    print!(rt; " rows {}", mix(&rows, u32::from))?;
+    print!(rt; " cols {}", mix(&cols, u32::from))
+}
+
+fn write_call(rt: &impl Print, mut rest: &[u8]) -> io::Result<()> {
+    let Some(lengths) = numbers::<5>(&mut rest) else {
+        return Ok(());
+    };
+    let [n, places, row_bytes, column_bytes, room] = lengths;
+    let places = places % (TABLE + 1);
+    let row_bytes = row_bytes % (LABELS + 1);
+    let column_bytes = column_bytes % (LABELS + 1);
+    if rest.len() < 2 * places + row_bytes + column_bytes {
         return Ok(());
     }
-    let mut table = table_room();
-    let mut rows = label_room();
-    let mut cols = label_room();
-    let answer = reader::read_sheet(&s[7..], &mut table[..t], &mut rows[..r], &mut cols[..c]);
-    match answer {
-        Read::Rows(n) => print(rt, b" rows ", n as u64)?,
-        Read::Refused(k) => print_refusal(rt, k)?,
-    }
-    print(rt, b" table ", long(mix_table(&table)))?;
-    print(rt, b" rows ", long(mix_labels(&rows)))?;
-    print(rt, b" cols ", long(mix_labels(&cols)))
-}
-
-fn write_call(rt: &impl Print, s: &[u8]) -> io::Result<()> {
-    let n = pair(s, 1);
-    let t = pair(s, 3) % 1101;
-    let r = pair(s, 5) % 301;
-    let c = pair(s, 7) % 301;
-    let o = pair(s, 9) % 12401;
-    let a = 11 + 2 * t;
-    let b = a + r;
-    let e = b + c;
-    if s.len() < e {
-        return Ok(());
-    }
-    let table = entries(s, 11, t);
-    let mut out = sheet_room();
-    let answer = writer::write_sheet(n, &table[..t], &s[a..b], &s[b..e], &mut out[..o]);
-    match answer {
-        Written::Bytes(k) => print(rt, b" bytes ", k as u64)?,
-        Written::Refused(k) => print_refusal(rt, k)?,
-    }
-    print(rt, b" room ", long(mix_room(&out)))
+    let (bytes, labels) = rest.split_at(2 * places);
+    let (rows, cols) = labels.split_at(row_bytes);
+    let table = entries(bytes);
+    let mut out = [7u8; ROOM];
+    let answer = writer::write_sheet(
+        n,
+        &table[..places],
+        rows,
+        &cols[..column_bytes],
+        &mut out[..room % (ROOM + 1)],
+    );
+    print_answer(rt, "bytes", answer)?;
+    print!(rt; " room {}", mix(&out, u32::from))
 }
 
 // Runs the call that a file holds. One that cannot be opened or read is told in a line on standard error.
@@ -180,19 +120,15 @@ fn run(rt: &(impl Files + Print + Eprint), path: &str) -> io::Result<()> {
         Ok(file) => file,
         Err(e) => return rt.eprintln(format_args!("{path}: {e}")),
     };
-    let mut buf = [0u8; 12400];
-    let reading = read_input(&mut file, &mut buf);
-    let Reading::Bytes(n) = reading else {
+    let mut buf = [0u8; ROOM];
+    let Ok(n) = read_input(&mut file, &mut buf) else {
         return rt.eprintln(format_args!("{path}: cannot be read"));
     };
     rt.print(path)?;
-    if n == 0 {
-        return Ok(());
-    }
-    if buf[0] == 82 {
-        read_call(rt, &buf[..n])?;
-    } else {
-        write_call(rt, &buf[..n])?;
+    match &buf[..n] {
+        [] => return Ok(()),
+        [b'R', call @ ..] => read_call(rt, call)?,
+        [_, call @ ..] => write_call(rt, call)?,
     }
     rt.write_all(b"\n")
 }
@@ -212,7 +148,7 @@ fn one(rt: &(impl Env + Files + Print + Eprint), i: usize) -> io::Result<bool> {
     Ok(true)
 }
 
-// A write that fails ends the run with its error.
+// The arguments are asked for one by one, since `env::args` takes the heap. A write that fails ends the run with its error.
 fn main(rt: HostRuntime) -> io::Result<()> {
     for i in 1..usize::MAX {
         if !one(&rt, i)? {

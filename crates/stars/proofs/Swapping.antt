@@ -11,7 +11,9 @@ use Rattle.theory.specs.Limits.{row_limit}
 use Rattle.theory.specs.Lists.{nums}
 use Rattle.orders.specs.Places.{Marks}
 use Rattle.orders.specs.Held.{Long}
-use Rattle.stars.specs.Shift.{MarkArrays, Swapped}
+use Rattle.orders.specs.declared.marks.Marked.{Marked}
+use Rattle.std.proofs.lemmas.List.Edits.{swapped_from_swap, length-swap}
+use Rattle.stars.specs.Shift.{Swapped}
 
 -- rows k and m have the columns of each other, and all else is as it was
 pub record Swap (ρ σ ρ' σ' : ℕ → ℕ) (k m : ℕ) : Type 0 where
@@ -36,7 +38,8 @@ module _ {n : ℕ} {ρ σ ρ' σ' : ℕ → ℕ} {k m : ℕ} (w : Marks n ρ σ)
       go (no a) (yes e) = rw (e, s.right) right
       go (no a) (no b) = rw (s.rest x a b) (rest x hx a b)
 
-  by_column : (P : ℕ → ℕ → Type 0) → P (σ m) k → P (σ k) m → ((y : ℕ) → y < n → y ≢ σ k → y ≢ σ m → P y (ρ y)) → (y : ℕ) → y < n → P y (ρ' y)
+  by_column : (P : ℕ → ℕ → Type 0) → P (σ m) k → P (σ k) m → ((y : ℕ) → y < n → y ≢ σ k → y ≢ σ m → P y (ρ y)) → (y : ℕ) → y < n
+      → P y (ρ' y)
   by_column P left right rest y hy = go (ℕ_discrete y (σ k)) (ℕ_discrete y (σ m))
     where
       go : Dec (y ≡ σ k) → Dec (y ≡ σ m) → P y (ρ' y)
@@ -66,7 +69,7 @@ module _ (l l' : List ℕ) (x y v w : ℕ) (is : l' ≡ set (set l x v) y w) (ap
   no_store z a b = rw is (get_or-set_other (set l x v) y z w 0 b ∙ get_or-set_other l x z v 0 a)
 
 -- the four stores of an exchange
-module _ {n : ℕ} {w r : MarkArrays} {k m : ℕ} (is : Swapped w k m r) (marks : Marks n (nums w.rows) (nums w.columns)) (small : n ≤ row_limit)
+module _ {n : ℕ} {w r : Marked} {k m : ℕ} (is : Swapped w k m r) (marks : Marks n (nums w.rows) (nums w.columns)) (small : n ≤ row_limit)
     (long_rows : Long w.rows) (long_columns : Long w.columns) (hk : k < n) (hm : m < n) (apart : k ≢ m) where
   other_columns : nums w.columns m ≢ nums w.columns k
   other_columns e = apart (sym (one_row marks m k hm hk e))
@@ -77,17 +80,19 @@ module _ {n : ℕ} {w r : MarkArrays} {k m : ℕ} (is : Swapped w k m r) (marks 
       let b = nums w.columns m in
       let c = marks.column k hk in
       let d = marks.column m hm in
+      let s = swapped_from_swap w.columns r.columns k m 0 (omega (arith, long_columns)) (omega (arith, long_columns)) is.columns in
+      let rows : r.rows ≡ set (set w.rows b k) a m = rw (s.0, s.1) at is.rows in
       record {
-        left = first_store w.columns r.columns k m b a is.columns apart (omega arith);
-        right = second_store w.columns r.columns k m b a is.columns apart (omega arith);
-        rest = no_store w.columns r.columns k m b a is.columns apart;
-        left_row = first_store w.rows r.rows b a k m is.rows other_columns (omega arith);
-        right_row = second_store w.rows r.rows b a k m is.rows other_columns (omega arith);
-        rest_row = λ y na nb. no_store w.rows r.rows b a k m is.rows other_columns y nb na;
+        left = s.0;
+        right = s.1;
+        rest = s.2;
+        left_row = first_store w.rows r.rows b a k m rows other_columns (omega arith);
+        right_row = second_store w.rows r.rows b a k m rows other_columns (omega arith);
+        rest_row = λ y na nb. no_store w.rows r.rows b a k m rows other_columns y nb na;
       }
 
   pub swap_long_rows : Long r.rows
   swap_long_rows = ap length is.rows ∙ simp length-set long_rows
 
   pub swap_long_columns : Long r.columns
-  swap_long_columns = ap length is.columns ∙ simp length-set long_columns
+  swap_long_columns = ap length is.columns ∙ length-swap w.columns k m ∙ long_columns

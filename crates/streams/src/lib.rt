@@ -2,31 +2,25 @@
 
 ghost use Rattle.streams.specs.Counted.{Counted, Taken};
 
-use std::io::{Read, Write};
-
-// What the reading of an input came to: so many bytes at the front of the buffer, or a read that failed.
-#[derive(Drop)]
-pub enum Reading {
-    Bytes(usize),
-    Failed,
-}
+use std::io::{self, Read, Write};
 
 // Reads an input until it ends or the buffer is full. A read that fails is told, and not taken for the end. Rules out a count of more
 // bytes than the buffer has; and of an input whose bytes are known, a buffer that begins with others, and a count that stops before
-// the buffer's end where the input goes on.
-pub fn read_input<R: Read>(reader: &mut R, buffer: &mut [u8]) -> Reading
+// the buffer's end where the input goes on. The loop goes on by what each read gave: `read_exact` would call a short input an error, and
+// `read_to_end` reads into the heap without a limit.
+pub fn read_input<R: Read>(reader: &mut R, buffer: &mut [u8]) -> io::Result<usize>
     ensures counted { Counted result buffer.new }
     ensures taken { Taken result (R.remaining reader.old) (R.remaining reader.new) buffer.new }
 {
     let mut at: usize = 0;
     while at < buffer.len() {
-        match reader.read(&mut buffer[at..]) {
-            Ok(0) => return Reading::Bytes(at),
-            Ok(got) => at += got,
-            Err(_) => return Reading::Failed,
+        let got = reader.read(&mut buffer[at..])?;
+        if got == 0 {
+            break;
         }
+        at += got;
     }
-    Reading::Bytes(at)
+    Ok(at)
 }
 
 // One line to a writer, standard error as a rule, where nothing is left to do if that fails too.
@@ -37,7 +31,6 @@ pub fn tell<W: Write>(writer: &mut W, line: &[u8]) {
 #[cfg(test)]
 mod tests {
     use super::*;
-    use std::io;
 
     // An input that gives a byte at each read, and fails where none is left.
     #[derive(Drop)]
@@ -59,20 +52,13 @@ mod tests {
         }
     }
 
-    fn count(reading: Reading) -> Option<usize> {
-        match reading {
-            Reading::Bytes(n) => Some(n),
-            Reading::Failed => None,
-        }
-    }
-
     #[test]
     fn reads_to_the_end_or_until_full(rt: HostRuntime) {
         for (input, want) in [("", 0), ("abc", 3), ("abcd", 4), ("abcde", 4)] {
             let mut buffer = [0u8; 4];
             let mut reader = input.as_bytes();
             assert_eq!(rt;
-                count(read_input(&mut reader, &mut buffer)),
+                read_input(&mut reader, &mut buffer).ok(),
                 Some(want),
                 "of {input}"
             );
@@ -85,7 +71,7 @@ mod tests {
             let mut buffer = [0u8; 4];
             let mut reader = Broken { left };
             assert_eq!(rt;
-                count(read_input(&mut reader, &mut buffer)),
+                read_input(&mut reader, &mut buffer).ok(),
                 want,
                 "of {left}"
             );

@@ -1,3 +1,2 @@
-pub mod Verdicts
-pub mod Fillings
+pub mod Bits
 pub mod Lines

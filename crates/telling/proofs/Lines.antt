@@ -1,19 +1,15 @@
 -- What the reader says when it refuses, by whether the refusal is a wrong line. Assumes nothing.
 use mathlib.Core.Path.{◌≡◌, ap, ◌∙◌}
-use mathlib.Core.List.{List, [], ◌∷◌}
-use Prim.Native.Nat.{ℕ}
-use Rattle.orders.specs.Refusals.{refuses, refusal, number_of}
+use Rattle.std.specs.Prelude.{List, [], ◌∷◌, ℕ, Result, Err}
+use Rattle.orders.specs.Refusals.{refuses, refusal, says, number_of}
 use Rattle.orders.specs.declared.Refusal.{Refusal}
 use Rattle.orders.specs.declared.Refusal.TheVariants.{Line}
 use Rattle.orders.proofs.Refusals.{values_none}
-use Rattle.reader.specs.Promise.{says}
-use Rattle.reader.specs.declared.Read.{Read}
-use Rattle.reader.specs.declared.Read.TheVariants.{Refused}
 
 -- a wrong line is refusal 10, with its number
-pub line_said : {a : Read} {e : Refusal} {k : ℕ} → a ≡ Refused e → e ≡ Line k → says a ≡ refuses 10 (k ∷ [])
+pub line_said : {X : Type 0} {a : Result X Refusal} {e : Refusal} {k : ℕ} → a ≡ Err e → e ≡ Line k → says a ≡ refuses 10 (k ∷ [])
 line_said p q = ap says p ∙ ap refusal q
 
 -- every other refusal, which the last arm of a match leaves, is its number alone
-pub other_said : {a : Read} {e : Refusal} → a ≡ Refused e → ((k : ℕ) → e ≡ Line k → ⊥) → says a ≡ refuses (number_of e) []
-other_said {a} {e} p h = ap says p ∙ ap (λ (v : List ℕ). refuses (number_of e) v) (values_none e h)
+pub other_said : {X : Type 0} {a : Result X Refusal} {e : Refusal} → a ≡ Err e → ((k : ℕ) → e ≡ Line k → ⊥) → says a ≡ refuses (number_of e) []
+other_said {a = a} {e = e} p h = ap says p ∙ ap (λ (v : List ℕ). refuses (number_of e) v) (values_none e h)

@@ -9,12 +9,11 @@ use Prim.Native.Nat.{ℕ, zero, suc, ◌+◌, ◌-◌, ◌*◌, ◌^◌, ◌≤�
 use native.Mathlib.Nat.{mul-le-mul_left}
 use native.Mathlib.Decide.{ℕ_discrete}
 use native.Mathlib.Omega.{arith}
-use borrow.Author.Tests.{lt-ltb}
 use lib.Dec.{T, ltb, leb, nleb→lt, ltb→lt, nltb→le, leb→le, le→leb, lt→ltb}
-use lib.IntN.{ℤ, pos, negsuc, neg_ℤ, sub_ℕ, ◌+ℤ◌, ◌-ℤ◌, nat_abs}
-use lib.Signed.{mag, ◌≤ℤ◌, ◌<ℤ◌, le_z, lt_z, non_neg, le_z_yes, lt_z_yes, lt_z_no}
+use lib.IntN.{ℤ, pos, negsuc, neg_ℤ, sub_ℕ, ◌+ℤ◌, ◌-ℤ◌}
+use lib.Signed.{mag, ◌≤ℤ◌, ◌<ℤ◌, le_z, lt_z, le_z_yes, lt_z_yes, lt_z_no}
 use mir.Syntax.{Width}
-use mir.Val.{SFits, hbits, to_z}
+use mir.Val.{SFits, hbits}
 use Rattle.theory.specs.Totals.{total, totalℕ}
 
 -- how far z is above 0, and how far below
@@ -161,24 +160,6 @@ pub total_ud : (n : ℕ) (f : ℕ → ℤ) → up (total n f) + totalℕ n (λ i
 unfolding total totalℕ
 total_ud zero f = refl
 total_ud (suc n) f = omega (arith, total_ud n f, plus (total n f) (f n))
-
--- ---- casts
--- an unsigned number below 2 ^ (w − 1), read as signed
-pub to_z_small : (w : Width) (n : ℕ) → n < 2 ^ hbits w → to_z w n ≡ pos n
-to_z_small w n h = rw (lt-ltb n (2 ^ hbits w) h) refl
-
--- a signed number that is not negative, cast to an unsigned type
-pub ud_non_neg : (z : ℤ) → dn z ≤ up z → T (non_neg z)
-ud_non_neg (pos n) h = tt
-ud_non_neg (negsuc n) h = absurd (omega arith)
-
-pub nat_abs_is : (z : ℤ) → nat_abs z ≡ up z + dn z
-nat_abs_is (pos n) = omega arith
-nat_abs_is (negsuc n) = omega arith
-
-pub dn_none : (z : ℤ) → dn z ≤ up z → dn z ≡ 0
-dn_none (pos n) h = refl
-dn_none (negsuc n) h = absurd (omega arith)
 
 -- a bound on `mag`, as a contract may have it
 pub mag_up : (z : ℤ) → up z ≤ mag z

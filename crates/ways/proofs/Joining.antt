@@ -1,5 +1,5 @@
 -- The rows found by the search, and the rows left behind them: the first that is found, and one more. Assumes nothing.
-use mathlib.Core.Path.{◌≡◌, refl, sym, ◌∙◌, ap}
+use mathlib.Core.Path.{◌≡◌, sym, ◌∙◌, ap}
 use mathlib.Core.Logic.{◌≢◌}
 use Prim.Native.Nat.{ℕ, ◌+◌, ◌-◌, ◌≤◌, ◌<◌}
 use native.Mathlib.Decide.{ℕ_discrete, dec_lt}
@@ -9,13 +9,15 @@ use Rattle.theory.specs.Canon.{Maximum}
 use Rattle.theory.proofs.Pigeonhole.{onto}
 use Rattle.theory.specs.Paths.{Leads}
 use Rattle.ways.specs.Search.{RowsFound, AllFound, RowsLeft, MoreFound}
+use Rattle.std.proofs.lemmas.List.Edits.{Swapped}
 use Rattle.orders.proofs.Stores.{Put}
 
 -- the rows at the places from `count` to p have no maximum in the column
 abbrev pub Passed : (n : ℕ) (a : ℕ → ℕ → ℤ) (l queue : ℕ → ℕ) (column count p : ℕ) → Type 0
 Passed n a l queue column count p = (q : ℕ) → q < p → count ≤ q → Maximum n a l (queue q) column → ⊥
 
-module _ {n : ℕ} {a : ℕ → ℕ → ℤ} {l : ℕ → ℕ} {i : ℕ} {σ next step queue : ℕ → ℕ} {count : ℕ} (w : RowsFound n a l i σ next step queue count) where
+module _ {n : ℕ} {a : ℕ → ℕ → ℤ} {l : ℕ → ℕ} {i : ℕ} {σ next step queue : ℕ → ℕ} {count : ℕ}
+    (w : RowsFound n a l i σ next step queue count) where
   -- row i is found, and it alone has step 1: every other row found goes on to one with a smaller step
   pub root_found : 0 < step i
   root_found = omega (arith, w.root)
@@ -69,9 +71,9 @@ module _ {n : ℕ} {a : ℕ → ℕ → ℤ} {l : ℕ → ℕ} {i : ℕ} {σ nex
         ]
 
     -- Row k, at place b behind the rows found, changes places with the first of those behind and is found there, with a step to row m.
-    module _ {next' step' queue₁ queue' : ℕ → ℕ} {b k m : ℕ} (behind : count ≤ b) (inside : i + b < n) (is : queue b ≡ k) (known : 0 < step m)
-        (lead : Leads n (Maximum n a l) σ m k) (pn : Put next next' k m) (ps : Put step step' k (count + 1)) (pb : Put queue queue₁ b (queue count))
-        (pq : Put queue₁ queue' count k) where
+    module _ {next' step' queue' : ℕ → ℕ} {b k m : ℕ} (behind : count ≤ b) (inside : i + b < n) (is : queue b ≡ k) (known : 0 < step m)
+        (lead : Leads n (Maximum n a l) σ m k) (pn : Put next next' k m) (ps : Put step step' k (count + 1))
+        (pq : Swapped queue queue' b count) where
       none : step k ≡ 0
       none = rw is at (left.none b behind inside)
 
@@ -86,19 +88,19 @@ module _ {n : ℕ} {a : ℕ → ℕ → ℤ} {l : ℕ → ℕ} {i : ℕ} {σ nex
       was x ne h = omega (arith, ps.off x ne)
 
       before : (p : ℕ) → p < count → queue' p ≡ queue p
-      before p h = pq.off p (omega arith) ∙ pb.off p (omega arith)
+      before p h = pq.2 p (omega arith) (omega arith)
 
       -- a place further behind has the row that it had, and place b that of the first place behind
       further : (p : ℕ) → count < p → p ≢ b → queue' p ≡ queue p
-      further p h ne = pq.off p (omega arith) ∙ pb.off p ne
+      further p h ne = pq.2 p ne (omega arith)
 
-      changed : count < b → queue' b ≡ queue count
-      changed h = pq.off b (omega arith) ∙ pb.at
+      joined : queue' count ≡ k
+      joined = pq.1 ∙ is
 
       -- what holds of place `count` of the queue and of those before it
       place : (P : ℕ → ℕ → Type 0) → P count k → ((p : ℕ) → p < count → P p (queue p)) → (p : ℕ) → p < count + 1 → P p (queue' p)
       place P new old p h = elim (ℕ_discrete p count) [
-        | yes e ↦ rw (e, pq.at) new
+        | yes e ↦ rw (e, joined) new
         | no ne ↦ rw (before p (omega arith)) (old p (omega arith))
       ]
 
@@ -129,7 +131,8 @@ module _ {n : ℕ} {a : ℕ → ℕ → ℤ} {l : ℕ → ℕ} {i : ℕ} {σ nex
               ∙ w.queued x hx (was x ne h))
         ];
         leads = each (λ x s y. Leads n (Maximum n a l) σ y x) lead w.leads;
-        found = each (λ x s y. 0 < step' y) (rw (kept m known) known) (λ x hx h ni. rw (kept (next x) (w.found x hx h ni)) (w.found x hx h ni));
+        found = each (λ x s y. 0 < step' y) (rw (kept m known) known)
+            (λ x hx h ni. rw (kept (next x) (w.found x hx h ni)) (w.found x hx h ni));
         nearer = each (λ x s y. step' y < s)
             (rw (kept m known) (omega (arith, w.counted m lead.from known)))
             (λ x hx h ni. rw (kept (next x) (w.found x hx h ni)) (w.nearer x hx h ni));
@@ -138,7 +141,7 @@ module _ {n : ℕ} {a : ℕ → ℕ → ℤ} {l : ℕ → ℕ} {i : ℕ} {σ nex
           last : (x : ℕ) → x ≡ k → queue' (step' x - 1) ≡ x
           last x e =
               let s : step' x - 1 ≡ count = omega (arith, ap step' e, ps.at) in
-              ap queue' s ∙ pq.at ∙ sym e
+              ap queue' s ∙ joined ∙ sym e
 
       -- what was found stays as it was
       pub more_found : {step₀ queue₀ : ℕ → ℕ} {count₀ : ℕ} → MoreFound n step₀ queue₀ count₀ step queue count
@@ -150,9 +153,10 @@ module _ {n : ℕ} {a : ℕ → ℕ → ℤ} {l : ℕ → ℕ} {i : ℕ} {σ nex
       }
 
       -- a place behind has now a row that a place behind other than b had: its own, or b that of place `count`
-      each_left : (P : ℕ → Type 0) → ((q : ℕ) → count ≤ q → i + q < n → q ≢ b → P (queue q)) → (p : ℕ) → count < p → i + p < n → P (queue' p)
+      each_left : (P : ℕ → Type 0) → ((q : ℕ) → count ≤ q → i + q < n → q ≢ b → P (queue q)) → (p : ℕ) → count < p → i + p < n
+          → P (queue' p)
       each_left P of p h hp = elim (ℕ_discrete p b) [
-        | yes e ↦ rw (ap queue' e ∙ changed (omega arith)) (of count (omega arith) (omega arith) (omega arith))
+        | yes e ↦ rw (ap queue' e ∙ pq.0) (of count (omega arith) (omega arith) (omega arith))
         | no ne ↦ rw (further p h ne) (of p (omega arith) hp ne)
       ]
 
@@ -163,7 +167,8 @@ module _ {n : ℕ} {a : ℕ → ℕ → ℤ} {l : ℕ → ℕ} {i : ℕ} {σ nex
         row = λ p h hp. each_left (λ x. x < n) (λ q h' hq ne. left.row q h' hq) p (omega arith) hp;
         later = λ p h hp. each_left (λ x. i < x) (λ q h' hq ne. left.later q h' hq) p (omega arith) hp;
         none = λ p h hp. each_left (λ x. step' x ≡ 0)
-            (λ q h' hq ne. ps.off (queue q) (λ d. ne (left.apart q b h' hq behind inside (d ∙ sym is))) ∙ left.none q h' hq) p (omega arith) hp;
+            (λ q h' hq ne. ps.off (queue q) (λ d. ne (left.apart q b h' hq behind inside (d ∙ sym is))) ∙ left.none q h' hq)
+            p (omega arith) hp;
         apart = λ p q h hp h' hq e. go p q (omega arith) hp (omega arith) hq e (ℕ_discrete p b) (ℕ_discrete q b);
       }
         where
@@ -173,25 +178,22 @@ module _ {n : ℕ} {a : ℕ → ℕ → ℤ} {l : ℕ → ℕ} {i : ℕ} {σ nex
               absurd (omega (
                 arith,
                 left.apart count q (omega arith) (omega arith) (omega arith) hq
-                    (sym (changed (omega arith)) ∙ ap queue' (sym x) ∙ e ∙ further q h' y),
+                    (sym (pq.0) ∙ ap queue' (sym x) ∙ e ∙ further q h' y),
               ))
           go p q h hp h' hq e (no x) (yes y) =
               absurd (omega (
                 arith,
                 left.apart p count (omega arith) hp (omega arith) (omega arith)
-                    (sym (further p h x) ∙ e ∙ ap queue' y ∙ changed (omega arith)),
+                    (sym (further p h x) ∙ e ∙ ap queue' y ∙ pq.0),
               ))
           go p q h hp h' hq e (no x) (no y) = left.apart p q (omega arith) hp (omega arith) hq (sym (further p h x) ∙ e ∙ further q h' y)
 
       -- the rows at the places behind that were passed have no maximum in the column, and k is none of them now
       pub passed_found : {column : ℕ} → Passed n a l queue column count b → Passed n a l queue' column (count + 1) (b + 1)
       passed_found s p hp h = elim (ℕ_discrete p b) [
-        | yes e ↦ rw (ap queue' e ∙ changed (omega arith)) (s count (omega arith) (omega arith))
+        | yes e ↦ rw (ap queue' e ∙ pq.0) (s count (omega arith) (omega arith))
         | no ne ↦ rw (further p (omega arith) ne) (s p (omega arith) (omega arith))
       ]
-
-pub more_none : (n : ℕ) (step queue : ℕ → ℕ) (count : ℕ) → MoreFound n step queue count step queue count
-more_none n step queue count = record { more = omega arith; same = λ p h. refl; kept = λ x hx h. h }
 
 -- row i is found first
 pub found_first : (n : ℕ) (a : ℕ → ℕ → ℤ) (l : ℕ → ℕ) (i : ℕ) (σ next step queue step₀ : ℕ → ℕ) → i < n

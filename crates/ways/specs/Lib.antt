@@ -1,3 +1,4 @@
 -- What the contracts of this crate cite.
-pub mod Given
+pub mod Heads
+pub mod Parts
 pub mod Search

@@ -1,18 +1,25 @@
 -- What the search for the rows from which a row's column can be reached has found. `0 < step k` says that row k is found.
-use Rattle.std.specs.Prelude.{◌≡◌, ◌≢◌, List, ℕ, ◌+◌, ◌-◌, ◌≤◌, ◌<◌, ℤ, set}
+use Rattle.std.specs.Prelude.{◌≡◌, ◌≢◌, Bool, true, false, List, ℕ, ◌+◌, ◌-◌, ◌≤◌, ◌<◌, ℤ, set, swap}
 use Rattle.theory.specs.Lists.{nums}
-use Rattle.theory.specs.Table.{entry}
 use Rattle.theory.specs.Canon.{Maximum}
 use Rattle.theory.specs.Paths.{Leads}
 use Rattle.orders.specs.Held.{Long}
+use Rattle.ways.specs.declared.raised.Raised.{Raised}
+use Rattle.ways.specs.declared.Ways.{Ways}
+use Rattle.ways.specs.Parts.{size, order_at, added}
 
 module _ (n : ℕ) (a : ℕ → ℕ → ℤ) (l : ℕ → ℕ) where
-  -- r is the least column before `own` in which row i has a maximum and whose marked row is eligible, or else `own`
-  pub record LeastColumn (row_of eligible : ℕ → ℕ) (i own r : ℕ) : Type 0 where
-    pub within : r ≤ own
-    pub maximum : r < own → Maximum n a l i r
-    pub eligible_row : r < own → 0 < eligible (row_of r)
-    pub none : (j : ℕ) → j < r → Maximum n a l i j → 0 < eligible (row_of j) → ⊥
+  -- E k b says that b tells whether row k is eligible. Column j is the least before `own` in which row i has a maximum and whose marked row
+  -- is eligible
+  pub record LeastColumn (row_of : ℕ → ℕ) (E : ℕ → Bool → Type 0) (i own j : ℕ) : Type 0 where
+    pub before : j < own
+    pub maximum : Maximum n a l i j
+    pub eligible : E (row_of j) true
+    pub none : (x : ℕ) → x < j → Maximum n a l i x → E (row_of x) false
+
+  -- there is none
+  pub record NoColumn (row_of : ℕ → ℕ) (E : ℕ → Bool → Type 0) (i own : ℕ) : Type 0 where
+    pub none : (x : ℕ) → x < own → Maximum n a l i x → E (row_of x) false
 
   -- The rows found so far, row i the first of them, stand in the queue in the order of their steps; each but row i is led to by its row
   -- `next`, which was found before it.
@@ -48,58 +55,47 @@ pub record MoreFound (n : ℕ) (step queue : ℕ → ℕ) (count : ℕ) (step' q
 
 -- ---- the same of the lists of the code
 -- what a search from row i is given besides the table: the columns of the rows
-pub record Columns (n i : ℕ) (column_of : List ℕ) : Type 0 where
-  pub row : i < n
-  pub column : (k : ℕ) → k < n → nums column_of k < n
+pub record Columns (g : Raised) (i : ℕ) (column_of : List ℕ) : Type 0 where
+  pub row : i < size g
+  pub column : (k : ℕ) → k < size g → nums column_of k < size g
 
--- the ways found, as the arrays of the code hold them
-pub record Ways : Type 0 where
-  pub next : List ℕ
-  pub step : List ℕ
-  pub queue : List ℕ
-  pub count : ℕ
-
-abbrev pub ways : List ℕ → List ℕ → List ℕ → ℕ → Ways
-ways next step queue count = record { next = next; step = step; queue = queue; count = count }
-
+-- the arrays have a place for each row of the largest table
 pub record LongWays (w : Ways) : Type 0 where
   pub next : Long w.next
   pub step : Long w.step
   pub queue : Long w.queue
+
+-- no row is found yet
+pub record Unsearched (n : ℕ) (w : Ways) : Type 0 where
+  pub long : LongWays w
+  pub none : (k : ℕ) → k < n → nums w.step k ≡ 0
 
 -- the rows from i on, one after the other
 pub record RowsFrom (n i : ℕ) (queue : List ℕ) : Type 0 where
   pub long : Long queue
   pub row : (p : ℕ) → i + p < n → nums queue p ≡ i + p
 
--- row k has joined, with a step to row m
-pub record Joined (w : Ways) (k m : ℕ) (r : Ways) : Type 0 where
-  pub next : r.next ≡ set w.next k m
-  pub step : r.step ≡ set w.step k (w.count + 1)
-  pub queue : r.queue ≡ set w.queue w.count k
+-- the row at this place of the queue has joined, with a step to row m, and has changed places with the first of those behind
+pub record Joined (w : Ways) (place m : ℕ) (r : Ways) : Type 0 where
+  pub next : r.next ≡ set w.next (nums w.queue place) m
+  pub step : r.step ≡ set w.step (nums w.queue place) (w.count + 1)
+  pub queue : r.queue ≡ swap w.queue place w.count
   pub count : r.count ≡ w.count + 1
 
-pub record RowsFoundIn (t : List ℤ) (n : ℕ) (l : List ℕ) (i : ℕ) (column_of : List ℕ) (w : Ways) : Type 0 where
+pub record RowsFoundIn (g : Raised) (i : ℕ) (column_of : List ℕ) (w : Ways) : Type 0 where
   pub long : LongWays w
-  pub ways : RowsFound n (entry t n) (nums l) i (nums column_of) (nums w.next) (nums w.step) (nums w.queue) w.count
-  pub left : RowsLeft n i (nums w.step) (nums w.queue) w.count
+  pub ways : RowsFound (size g) (order_at g) (added g) i (nums column_of) (nums w.next) (nums w.step) (nums w.queue) w.count
+  pub left : RowsLeft (size g) i (nums w.step) (nums w.queue) w.count
 
 -- more rows are found, and all rows after i that have a maximum in the column of row m
-pub record Scanned (t : List ℤ) (n : ℕ) (l : List ℕ) (i : ℕ) (column_of : List ℕ) (m : ℕ) (w r : Ways) : Type 0 where
-  pub ways : RowsFoundIn t n l i column_of r
-  pub grown : MoreFound n (nums w.step) (nums w.queue) w.count (nums r.step) (nums r.queue) r.count
-  pub all : AllFound n (entry t n) (nums l) i (nums column_of m) (nums r.step)
-
--- no row is found yet
-pub record Unsearched (n : ℕ) (next step : List ℕ) : Type 0 where
-  pub long_next : Long next
-  pub long_step : Long step
-  pub none : (k : ℕ) → k < n → nums step k ≡ 0
+pub record Scanned (g : Raised) (i : ℕ) (column_of : List ℕ) (m : ℕ) (w r : Ways) : Type 0 where
+  pub ways : RowsFoundIn g i column_of r
+  pub grown : MoreFound (size g) (nums w.step) (nums w.queue) w.count (nums r.step) (nums r.queue) r.count
+  pub all : AllFound (size g) (order_at g) (added g) i (nums column_of m) (nums r.step)
 
 -- rows are found, in some order; and if the row wanted is not among them, then every row after i to which a row found leads is found
-pub record Searched (t : List ℤ) (n : ℕ) (l : List ℕ) (i : ℕ) (column_of : List ℕ) (wanted : ℕ) (next step : List ℕ) : Type 0 where
-  pub queue : List ℕ
-  pub count : ℕ
-  pub found : RowsFoundIn t n l i column_of (ways next step queue count)
-  pub all : nums step wanted ≡ 0
-      → (m k : ℕ) → i < k → 0 < nums step m → Leads n (Maximum n (entry t n) (nums l)) (nums column_of) m k → 0 < nums step k
+pub record Searched (g : Raised) (i : ℕ) (column_of : List ℕ) (wanted : ℕ) (r : Ways) : Type 0 where
+  pub found : RowsFoundIn g i column_of r
+  pub all : nums r.step wanted ≡ 0
+      → (m k : ℕ) → i < k → 0 < nums r.step m → Leads (size g) (Maximum (size g) (order_at g) (added g)) (nums column_of) m k
+      → 0 < nums r.step k

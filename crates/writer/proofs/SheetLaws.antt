@@ -1,48 +1,23 @@
 -- The whole sheet of what is handed to the writer. Assumes nothing.
 use mathlib.Core.Path.{◌≡◌, refl, ap, ◌∙◌}
-use mathlib.Core.List.{List, [], ◌∷◌, ◌++◌}
-use Prim.Native.Nat.{ℕ, ◌+◌, ◌<◌, ◌≤◌}
+use mathlib.Core.List.{List, []}
+use Prim.Native.Nat.{ℕ, ◌<◌, ◌≤◌}
 use native.Mathlib.Omega.{arith}
 use lib.IntN.{ℤ}
-use lib.ListN.{length, length-append}
+use lib.ListN.{length}
 use Rattle.theory.specs.Limits.{order_limit}
 use Rattle.theory.specs.Table.{Entries}
-use Rattle.orders.specs.Places.{Square}
 use Rattle.orders.specs.Refusals.{gives, refuses}
 use Rattle.handed.specs.Conditions.{OutOfSize}
-use Rattle.handed.proofs.Basics.{sized}
-use Rattle.sheet.specs.Text.{feed, text, ended, rows_head, cols_head, orders_head, over}
-use Rattle.sheet.specs.Sheet.{Labelled, ended_lines, present_count, sheet_of}
+use Rattle.sheet.specs.Text.{over}
+use Rattle.sheet.specs.Sheet.{Labelled, sheet_of}
 use Rattle.labels.specs.Parts.{labels_of, BufferStands}
 use Rattle.labels.proofs.SlotLaws.{labels_count, buffer_slots, buffer_labels}
-use Rattle.order_lines.specs.Parts.{order_bytes}
-use Rattle.writer.specs.Parts.{label_section, order_section, rest_text, sheet_text}
+use Rattle.writer.specs.Parts.{sheet_text}
 use Rattle.sheet.proofs.Orders.{sheet_bytes}
 use Rattle.lettering.specs.Putting.{Puts}
 use Rattle.writer.specs.Promise.{model, Wanted, Labelling, WritePromise, wrote}
 use Rattle.writer.proofs.Refusing.{refuse_room, all_clear}
-
--- the length of the sheet, section by section
-head_length : (h : List ℕ) (n : ℕ) → length (ended (h ++ text n)) ≡ length h + length (text n) + 1
-head_length h n = length-append (h ++ text n) (feed ∷ []) ∙ omega (arith, length-append h (text n))
-
-labels_length : (h : List ℕ) (n : ℕ) (b : List ℕ) → length (label_section h n b) ≡ length h + length (text n) + 1 + length (ended_lines (labels_of n b))
-labels_length h n b = length-append (ended (h ++ text n)) (ended_lines (labels_of n b)) ∙ omega (arith, head_length h n)
-
-pub sheet_text_length : (n : ℕ) (t : List ℤ) (r c : List ℕ)
-    → length (sheet_text n t r c)
-    ≡ length (text n) + 6 + length (ended_lines (labels_of n r)) + (length (text n) + 6 + length (ended_lines (labels_of n c)))
-    + (length (text (present_count t)) + 8 + length (order_bytes n 0 t))
-sheet_text_length n t r c =
-    length-append (label_section rows_head n r) (rest_text n t c)
-    ∙ omega (
-      arith,
-      labels_length rows_head n r,
-      labels_length cols_head n c,
-      length-append (label_section cols_head n c) (order_section n t),
-      length-append (ended (orders_head ++ text (present_count t))) (order_bytes n 0 t),
-      head_length orders_head (present_count t),
-    )
 
 -- what is handed as a labelled table
 abbrev pub labelled : ℕ → List ℤ → List ℕ → List ℕ → Labelled
@@ -54,9 +29,6 @@ sheet_text_is n t r c = rw (sheet_bytes (labelled n t r c), labels_count n r, la
 -- the tests, one after the other
 module _ (n : ℕ) (t : List ℤ) (r c : List ℕ) where
   module _ (s : OutOfSize n → ⊥) (w : Wanted (model n t r c)) where
-    pub square : Square t n
-    square = record { small = (sized s).1; square = w.table_length }
-
     -- buffers that stand hold a labelled table
     pub labelling : BufferStands n r → BufferStands n c → Labelling (model n t r c) (labelled n t r c)
     labelling p q =

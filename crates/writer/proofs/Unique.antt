@@ -3,21 +3,14 @@ use mathlib.Core.Path.{◌≡◌, sym, ap, ◌∙◌}
 use mathlib.Core.List.{List}
 use Prim.Native.Nat.{ℕ}
 use lib.ListN.{length}
-use Rattle.orders.specs.Refusals.{number_of, values_of, Said, gives}
-use Rattle.orders.proofs.Refusals.{first_clear, refused_once, refusal_once, given_once, not_both}
+use Rattle.std.specs.Prelude.{Result}
+use Rattle.orders.specs.Refusals.{Said, gives, says}
+use Rattle.orders.specs.declared.Refusal.{Refusal}
+use Rattle.orders.proofs.Refusals.{first_clear, refused_once, says_once}
 use Rattle.sheet.specs.Text.{over}
 use Rattle.sheet.specs.Sheet.{Labelled, sheet_of}
 use Rattle.sheet.proofs.Slots.{slots_once}
-use Rattle.writer.specs.declared.Written.{Written}
-use Rattle.writer.specs.declared.Written.TheVariants.{Bytes, Refused}
-use Rattle.writer.specs.Promise.{says, Model, Labelling, writer_tests, WritePromise, refused, wrote}
-
--- an answer of the writer is known from its number and values
-pub says_once : (a b : Written) → says a ≡ says b → a ≡ b
-says_once (Bytes n) (Bytes m) e = ap Bytes (given_once n m e)
-says_once (Bytes n) (Refused r) e = not_both n (number_of r) (values_of r) e
-says_once (Refused r) (Bytes m) e = not_both m (number_of r) (values_of r) (sym e)
-says_once (Refused r) (Refused q) e = ap Refused (refusal_once r q e)
+use Rattle.writer.specs.Promise.{Model, Labelling, writer_tests, WritePromise, refused, wrote}
 
 -- what is handed is one labelled table at most
 pub labelling_once : (h : Model) (x y : Labelled) → Labelling h x → Labelling h y → x ≡ y
@@ -48,6 +41,6 @@ promise_once h o p q a b (wrote t c i e m) (wrote t' c' i' e' m') =
     }
 
 -- Uniqueness of the writer: two results with two memories that both meet the statement are the same result and the same memory.
-pub write_once : (h : Model) (o p q : List ℕ) (a b : Written) → WritePromise h o p (says a) → WritePromise h o q (says b) → (a ≡ b) × (p ≡ q)
+pub write_once : (h : Model) (o p q : List ℕ) (a b : Result ℕ Refusal) → WritePromise h o p (says a) → WritePromise h o q (says b) → (a ≡ b) × (p ≡ q)
 write_once h o p q a b f g =
     let r = promise_once h o p q (says a) (says b) f g in (says_once a b r.answer, r.memory)

@@ -1,18 +1,11 @@
 -- The writer's promise.
 use Rattle.std.specs.Prelude.{◌≡◌, ◌⊎◌, List, [], ◌∷◌, ℕ, ◌*◌, ◌<◌, ℤ, length}
-use Rattle.orders.specs.Refusals.{Said, gives, refuses, refusal, Test, ◌given_when◌, First, Clear, Slice, ◌wanted◌, WrongLength}
+use Rattle.orders.specs.Refusals.{Said, gives, refuses, Test, ◌given_when◌, First, Clear, Slice, ◌wanted◌, WrongLength}
 use Rattle.handed.specs.Conditions.{OutOfSize, WrongEntry}
 use Rattle.sheet.specs.Text.{over}
 use Rattle.sheet.specs.Labels.{width, Labels, slots}
 use Rattle.sheet.specs.Sheet.{Labelled, sheet_of}
 use Rattle.labels.specs.Wrong.{WrongIn}
-use Rattle.writer.specs.declared.Written.{Written}
-use Rattle.writer.specs.declared.Written.TheVariants.{Bytes, Refused}
-
--- document 01's number and values for each case: "The reader returns N, the writer the length of the sheet written."
-abbrev pub says : Written → Said ℕ
-says (Bytes n) = gives n
-says (Refused r) = refusal r
 
 -- what is handed in to be written
 pub record Model : Type 0 where
@@ -62,7 +55,8 @@ writer_tests h room =
     11 given_when WrongLabel h ∷
     12 given_when NoRoom h room ∷ []
 
--- What is handed, the room at the call, the room after it, and the answer. Either some refusal that concerns the writer applies: then
+-- What is handed, the room at the call, the room after it, and the answer: "The reader returns N, the writer the length of the sheet
+-- written." Either some refusal that concerns the writer applies: then
 -- the first, which is the lowest, is returned and "each lent buffer then holds what it held at the call". Or none does: then the
 -- length of the sheet is returned, the sheet stands at the front of the room, and "bytes after the sheet stay".
 pub data WritePromise (h : Model) (room room' : List ℕ) (a : Said ℕ) : Type 0 where

@@ -1,68 +1,45 @@
 -- Route 1 keeps its promise. Assumes nothing.
 use mathlib.Core.Path.{refl, ap}
 use mathlib.Core.Logic.{inl}
-use mathlib.Core.List.{[], ◌∷◌}
-use native.Mathlib.Omega.{arith}
 use borrow.Author.Rules.{rules}
-use borrow.Author.Tests.{not-true, not-false}
-use lib.ListN.{length}
 use mir.Syntax.{w32}
 use mir.Val.{SFits}
 use mir.Facts.{to_z-of_z}
+use Rattle.std.proofs.lemmas.Result.{err_from_is_err_and}
+use Rattle.std.proofs.lemmas.Option.{MatchOption-at_none, MatchOption-at_some}
 use Rattle.orders.specs.Refusals.{gives}
 use Rattle.orders.specs.Held.{Long}
 use Rattle.orders.proofs.Zeros.{zero_start, zero_simplest}
-use Rattle.handed.specs.Handed.{Sound}
-use Rattle.outcome.specs.declared.WholeAnswer.{WholeAnswer}
 use Rattle.outcome.proofs.Delivery.{delivery}
-use Rattle.canon.proofs.Refusing.{basic_own, refuse_first, refuse_later, lent}
-use Rattle.canon.proofs.Solving.{answer_whole}
+use Rattle.canon.proofs.Refusing.{refuse_first, refuse_later, lent}
+use Rattle.canon.proofs.Solving.{answer_whole, none_refused}
 use Rattle.canon.proofs.Answering.{routed}
 use Rattle.canon.proofs.solve.Goals as goal
-use Rattle.canon.proofs.solve.Goals.{After-solved-findings, In_default}
 
-pub returns-in-Refused : goal.returns-in-Refused
-returns-in-Refused c = refuse_first (basic_own c.tested-first.ensures) _ c.in-Refused.is
+pub returns-in_err-tested : goal.returns-in_err-tested
+returns-in_err-tested c =
+    let p = err_from_is_err_and c.from_residual.result c.from_residual.ensures.1 in
+    rw (p.1, p.2) (refuse_first c.tested.ensures _ c.in_err-tested.was)
 
--- past the first three tests
-abbrev Passed : In_default → Type 0
-Passed c =
-    let a = c.args in
-    Sound a.n a.table.now (length a.adds.now ∷ length a.stars.now ∷ length a.heads.now ∷ [])
+pub solved-requires : goal.solved-requires
+solved-requires c =
+    let s = c.tested.ensures.passed c.in_ok-tested.was in
+    record { square = s.square; entries = s.entries; handed_in = λ i hi. zero_start _ i }
 
-passed : (c : In_default) → Passed c
-passed c = (basic_own c.tested-first.ensures).passed c.in_default.is
-
-pub solved-findings-requires : goal.solved-findings-requires
-solved-findings-requires c = let s = passed c in record { square = s.square; entries = s.entries; handed_in = λ i hi. zero_start _ i }
-
-pub returns-then-not-findings : goal.returns-then-not-findings
-returns-then-not-findings c =
-    refuse_later (passed (goal.at.returns-then-not-findings c).In_default) 6 (inl (c.solved-findings.ensures.none (not-true _ c.if-not-findings.true), refl)) refl
-
--- what was found fits its types
-abbrev answer : After-solved-findings → WholeAnswer
-answer c = c.solved-findings.result.answer
-
-sum_fits : (c : After-solved-findings) → SFits w32 (answer c).sum
-sum_fits c = search rules
-
-wide : (c : After-solved-findings) → Long (answer c).additions × Long (answer c).stars × Long (answer c).heads
-wide c = search rules
-
-pub hand_out-requires : goal.hand_out-requires
-hand_out-requires c =
-    let s = passed (goal.at.hand_out-requires c).In_default in
-    let few = s.square.small in
-    (omega (arith, few, s.fitting.0), omega (arith, few, s.fitting.1.0), omega (arith, few, s.fitting.1.1.0))
+pub returns-in_err-answer : goal.returns-in_err-answer
+returns-in_err-answer c =
+    let p = err_from_is_err_and c.from_residual-in_err-answer.result c.from_residual-in_err-answer.ensures.1 in
+    let s = c.tested.ensures.passed c.in_ok-tested.was in
+    let e = none_refused c.solved.result _ _ c.ok_or.ensures.value c.in_err-answer.was in
+    rw (p.1, p.2, e.1) (refuse_later s 6 (inl (MatchOption-at_none _ _ e.0 c.solved.ensures, refl)) refl)
 
 pub returns : goal.returns
 returns c =
-    let h = c in
-    let e = h in
-    let d = e in
-    let s = passed (goal.at.returns d).In_default in
-    let a = d.solved-findings.ensures.answered (not-false _ e.if-not-findings.false) in
-    routed s ((λ none. none _ a.solution.stars.of_maxima.transversal), tt) (ap gives (to_z-of_z (sum_fits (goal.at.returns d).After-solved-findings)))
+    let s = c.tested.ensures.passed c.in_ok-tested.was in
+    let w = c.in_ok-answer.answer in
+    let a = MatchOption-at_some _ _ w c.in_ok-answer.ensures.ok_part c.solved.ensures in
+    let fits : SFits w32 w.sum = search rules in
+    let wide : Long w.additions × Long w.stars × Long w.heads = search rules in
+    routed s ((λ none. none _ a.solution.stars.of_maxima.transversal), tt) (ap gives (to_z-of_z fits))
     (zero_simplest a.solution.additions)
-    (delivery s.square.small (lent s.fitting) (wide (goal.at.returns d).After-solved-findings).0 (wide (goal.at.returns d).After-solved-findings).1 (wide (goal.at.returns d).After-solved-findings).2 (answer_whole a) h.hand_out.ensures)
+    (delivery s.square.small (lent s.fitting) wide.0 wide.1 wide.2 (answer_whole a) c.hand_out.ensures)

@@ -1,36 +1,19 @@
 -- A number from 1 on with a blank after it. Assumes nothing.
-use native.Mathlib.Omega.{arith}
-use Rattle.fields.specs.Fields.{FrontIs}
-use Rattle.fields.proofs.Answers.{front_found, front_none}
-use Rattle.fields.proofs.NumberLaws.{no_field, field_zero, field_end, field_other, field_good}
+use Rattle.std.proofs.Common.{arith}
+use Rattle.std.proofs.lemmas.Grind.{common_steps}
+use Rattle.std.proofs.lemmas.Option.{gets}
+use Rattle.fields.proofs.NumberLaws.{no_field, field_zero, field_other}
 use Rattle.fields.proofs.number_field.Goals as goal
-use Rattle.fields.proofs.number_field.Goals.{In-Number}
+use Rattle.fields.proofs.number_field.Goals.{then-value-eq0-via-then-value-eq0, then-value-eq0-via-else-value-eq0+then-ne}
 
-pub returns-in_default : goal.returns-in_default
-returns-in_default c = front_none (no_field _ _ (c.front_number.ensures.none c.in_default.is))
-
--- the number that stands at the front
-number : (c : In-Number)
-    → FrontIs c.args.s.now c.args.limit
-    c.in-Number.value c.in-Number.taken
-number c = c.front_number.ensures.found _ _ c.in-Number.is
+pub returns-in_err-value : goal.returns-in_err-value
+returns-in_err-value c = rw c.from_residual.ensures (no_field _ _ c.in_err-value.ensures)
 
 pub returns-then-value-eq0 : goal.returns-then-value-eq0
-returns-then-value-eq0 c = front_none (field_zero (number (goal.at.returns-then-value-eq0 c).In-Number) c.if-value-eq0.true)
-
-pub returns-then-taken-s : goal.returns-then-taken-s
-returns-then-taken-s c = front_none (field_end (number (goal.at.returns-then-taken-s c).In-Number) c.if-taken-s.true)
-
-pub bounds-s-taken : goal.bounds-s-taken
-bounds-s-taken c = omega (arith, (number (goal.at.bounds-s-taken c).In-Number).inside)
-
-pub returns-then-s-taken-ne-BLANK : goal.returns-then-s-taken-ne-BLANK
-returns-then-s-taken-ne-BLANK c = let f = number (goal.at.returns-then-s-taken-ne-BLANK c).In-Number in front_none (field_other f (omega (arith, f.inside)) c.if-s-taken-ne-BLANK.true)
-
-pub overflow_add-result : goal.overflow_add-result
-overflow_add-result c = omega (arith, (number (goal.at.overflow_add-result c).In-Number).inside)
-
-pub returns : goal.returns
-returns c =
-    let f = number (goal.at.returns c).In-Number in
-    front_found _ _ (field_good f c.if-value-eq0.false (omega (arith, f.inside)) c.if-s-taken-ne-BLANK.false)
+returns-then-value-eq0 c =
+    let f = c.in_ok-value.ensures in
+    elim c.then-value-eq0.branch [
+      | then-value-eq0-via-then-value-eq0 w ↦ field_zero f w.if-value-eq0.true
+      | then-value-eq0-via-else-value-eq0+then-ne w ↦
+          field_other f (λ p q. grind (arith, common_steps, gets))
+    ]

@@ -1,54 +1,33 @@
 -- The first three refusals are tested in their order. Assumes nothing.
 use mathlib.Core.Logic.{inl, inr}
-use native.Mathlib.Omega.{arith}
-use borrow.Author.Tests.{not-true, not-false}
-use Rattle.orders.proofs.Places.{square_small}
-use Rattle.handed.proofs.Basics.{wrong_entry, basic_size, basic_lengths, basic_entries, basic_sound}
+use Rattle.std.proofs.Common.{rules}
+use Rattle.std.proofs.iter.runs.Made.{chains}
+use Rattle.orders.specs.Tested.{Tells}
+use Rattle.handed.proofs.Basics.{wrong_entry, basic_lengths, basic_entries, basic_sound, AllWanted, each_right, each_wrong}
 use Rattle.handed.proofs.tested.Goals as goal
+use Rattle.handed.proofs.tested.Goals.{then-table-n-via-then-table-n, then-table-n-via-else-table-n+then-not-all, After-all}
 
-pub returns-then-n-eq0 : goal.returns-then-n-eq0
-returns-then-n-eq0 c = basic_size (inl c.if-n-eq0.true)
-
-pub returns-then-n-gt-ROWS : goal.returns-then-n-gt-ROWS
-returns-then-n-gt-ROWS c = basic_size (inr c.if-n-gt-ROWS.true)
-
-pub overflow_mul-n : goal.overflow_mul-n
-overflow_mul-n c = omega (arith, square_small c.args.n c.if-n-gt-ROWS.false)
+-- what the lengths' test tells
+told : (c : After-all) → Tells c.all.result (AllWanted c.args.n c.args.lengths.now)
+told c = search (rules, chains)
 
 pub returns-then-table-n : goal.returns-then-table-n
-returns-then-table-n c = basic_lengths c.if-n-eq0.false (omega (arith, c.if-n-gt-ROWS.false)) (inl c.if-table-n.true)
-
-pub returns-then-given-n : goal.returns-then-given-n
-returns-then-given-n c =
-    basic_lengths c.if-n-eq0.false (omega (arith, c.if-n-gt-ROWS.false)) (inr (inl c.if-given-n.true))
-
-pub returns-then-adds-n : goal.returns-then-adds-n
-returns-then-adds-n c =
-    basic_lengths c.if-n-eq0.false (omega (arith, c.if-n-gt-ROWS.false))
-    (inr (inr (inl c.if-adds-n.true)))
-
-pub returns-then-stars-n : goal.returns-then-stars-n
-returns-then-stars-n c =
-    basic_lengths c.if-n-eq0.false (omega (arith, c.if-n-gt-ROWS.false))
-    (inr (inr (inr (inl c.if-stars-n.true))))
-
-pub returns-then-heads-n : goal.returns-then-heads-n
-returns-then-heads-n c =
-    basic_lengths c.if-n-eq0.false (omega (arith, c.if-n-gt-ROWS.false))
-    (inr (inr (inr (inr (inl c.if-heads-n.true)))))
+returns-then-table-n c =
+    elim c.then-table-n.branch [
+      | then-table-n-via-then-table-n w ↦ basic_lengths c.if-n-eq0.false c.if-n-gt-ROWS.false (inl w.if-table-n.true)
+      | then-table-n-via-else-table-n+then-not-all w ↦
+          let t : Tells w.all.result (AllWanted c.args.n c.args.lengths.now) = search (rules, chains) in
+          basic_lengths c.if-n-eq0.false c.if-n-gt-ROWS.false (inr (each_wrong _ _ (t.fails w.if-not-all.true)))
+    ]
 
 pub returns-then-not-entries_stand : goal.returns-then-not-entries_stand
 returns-then-not-entries_stand c =
-    let b = c.before.before in
-    basic_entries b.if-n-eq0.false (omega (arith, b.if-n-gt-ROWS.false))
-    b.if-table-n.false
-    (b.if-given-n.false, (b.if-adds-n.false, (b.if-stars-n.false, (b.if-heads-n.false, tt))))
-    (wrong_entry _ (c.entries_stand.ensures.fails (not-true _ c.if-not-entries_stand.true-raw)))
+    basic_entries c.if-n-eq0.false c.if-n-gt-ROWS.false c.if-table-n.false
+    (each_right _ _ ((told (goal.at.returns-then-not-entries_stand c).After-all).holds c.if-not-all.false))
+    (wrong_entry _ (c.entries_stand.ensures.fails c.if-not-entries_stand.true))
 
 pub returns : goal.returns
 returns c =
-    let b = c.before.before in
-    basic_sound b.if-n-eq0.false (omega (arith, b.if-n-gt-ROWS.false))
-    b.if-table-n.false
-    (b.if-given-n.false, (b.if-adds-n.false, (b.if-stars-n.false, (b.if-heads-n.false, tt))))
-    (c.entries_stand.ensures.holds (not-false _ c.if-not-entries_stand.false-raw))
+    basic_sound c.if-n-eq0.false c.if-n-gt-ROWS.false c.if-table-n.false
+    (each_right _ _ ((told (goal.at.returns c).After-all).holds c.if-not-all.false))
+    (c.entries_stand.ensures.holds c.if-not-entries_stand.false)

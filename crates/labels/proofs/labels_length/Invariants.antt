@@ -1,19 +1,13 @@
 -- The lengths of the label lines are added up. Assumes nothing.
-use Prim.Native.Nat.{◌-◌, ◌*◌, ◌≤◌}
+use Prim.Native.Nat.{◌*◌, ◌≤◌}
 use mathlib.Core.Path.{◌≡◌}
 use lib.ListN.{length}
-use Rattle.theory.specs.Limits.{row_limit}
-use Rattle.sheet.specs.Labels.{width}
 use Rattle.sheet.specs.Sheet.{ended_lines}
 use Rattle.labels.specs.Parts.{labels_of, label_most}
 use Rattle.labels.proofs.labels_length.Given as goal
 
 abbrev pub invariant-loop-k : goal.invariant-loop-k
-invariant-loop-k l = (l.k ≤ l.n)
-    × (l.n ≤ row_limit)
-    × (width * l.n ≤ length l.labels)
-    × (l.sum ≡ length (ended_lines (labels_of l.k l.labels)))
-    × (l.sum ≤ label_most * l.k)
-
-abbrev pub decreases-loop-k : goal.decreases-loop-k
-decreases-loop-k l = l.n - l.k
+invariant-loop-k l = record {
+  is : l.sum ≡ length (ended_lines (labels_of l.k l.labels.bytes.now));
+  few : l.sum ≤ label_most * l.k;
+}

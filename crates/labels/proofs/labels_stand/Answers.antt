@@ -1,46 +1,23 @@
 -- The places of a buffer are tested one after the other. Assumes nothing.
 use native.Mathlib.Omega.{arith}
-use Prim.Native.Nat.{◌+◌, ◌*◌}
-use mathlib.Core.Path.{◌≡◌, refl, subst, subst⁻¹, ◌∙◌}
-use Rattle.labels.proofs.SlotLaws.{filled_stands, buffer_none, buffer_more, labels_stand, labels_wrong}
-use Rattle.sheet.specs.Labels.{width}
-use Rattle.sheet.proofs.Slots.{part_slot}
-use Rattle.labels.specs.Parts.{BufferStands, SlotStands}
+use mathlib.Core.Path.{◌∙◌, subst⁻¹}
+use Rattle.labels.specs.Parts.{SlotStands}
 use Rattle.labels.specs.Wrong.{malformed, repeated}
+use Rattle.labels.proofs.SlotLaws.{filled_stands, buffer_more, labels_wrong}
 use Rattle.labels.proofs.labels_stand.Goals as goal
-
-pub loop-k-init : goal.loop-k-init
-loop-k-init c = (omega arith, c.requires, buffer_none c.args.labels.now)
+use Rattle.labels.proofs.labels_stand.Goals.{then-not-slot_stands-via-then-not-slot_stands, then-not-slot_stands-via-else-not-slot_stands+then-repeated}
 
 pub returns-then-not-slot_stands : goal.returns-then-not-slot_stands
-returns-then-not-slot_stands c = let slot-stands' = c.slot_stands in
-    let if1' = c.if-not-slot_stands in
-    let args' = c.args in
-    let loop' = c.loop-k in
-    labels_wrong (malformed loop'.k (omega arith)
-    (λ l f e.
-    slot-stands'.ensures.fails if1'.true
-    (subst⁻¹ (λ x. SlotStands x) (part_slot args'.labels.now (width * loop'.k) (width * loop'.k + width) loop'.k refl refl ∙ e) (filled_stands l f))))
-
-pub returns-then-repeated : goal.returns-then-repeated
-returns-then-repeated c =
-    labels_wrong (repeated c.loop-k.k (omega arith) (c.repeated.ensures.holds c.if-repeated.true))
+returns-then-not-slot_stands c =
+    elim c.then-not-slot_stands.branch [
+      | then-not-slot_stands-via-then-not-slot_stands w ↦
+          labels_wrong (malformed c.loop-k.k (omega arith)
+          (λ l f e. c.slot_stands.ensures.fails w.if-not-slot_stands.true (subst⁻¹ (λ x. SlotStands x) (c.slot.ensures ∙ e) (filled_stands l f))))
+      | then-not-slot_stands-via-else-not-slot_stands+then-repeated w ↦
+          labels_wrong (repeated c.loop-k.k (omega arith) (w.repeated.ensures.holds w.if-repeated.true))
+    ]
 
 pub loop-k-preserved : goal.loop-k-preserved
-loop-k-preserved c = let loop' = c.loop-k in
-    let args' = c.args in
-    let slot-stands' = c.slot_stands in
-    let if1' = c.if-not-slot_stands in
-    let repeated' = c.repeated in
-    let if2' = c.if-repeated in
-    let l = loop' in (
-      omega arith,
-      l.invariant.1,
-      buffer_more l.k args'.labels.now (omega arith) l.invariant.2 (subst (λ x. SlotStands x) (part_slot args'.labels.now (width
-          * loop'.k) (width * loop'.k + width) loop'.k refl refl) (slot-stands'.ensures.holds if1'.false))
-          (repeated'.ensures.fails if2'.false),
-    )
-
-pub returns : goal.returns
-returns c = let e : c.loop-k.k ≡ c.args.n = omega arith in
-    labels_stand (subst (λ x. BufferStands x c.args.labels.now) e c.loop-k.invariant.2)
+loop-k-preserved c =
+    buffer_more c.loop-k.k c.args.labels.now.bytes.now (omega arith) c.loop-k.invariant
+    (rw c.slot.ensures at (c.slot_stands.ensures.holds c.if-not-slot_stands.false)) (c.repeated.ensures.fails c.if-repeated.false)

@@ -1,6 +1,6 @@
 -- A number is written after its tens. Assumes nothing.
 use native.Mathlib.Omega.{arith}
-use Rattle.lettering.proofs.TextLaws.{text_length, digits_more}
+use Rattle.lettering.proofs.TextLaws.{digits_more}
 use Prim.Native.Nat.{◌/◌}
 use Rattle.sheet.proofs.Numbers.{text_some}
 use Rattle.sheet.specs.Text.{text}
@@ -22,10 +22,6 @@ bounds-out-k t c =
     let e = c.put_number-k.ensures in
     let more = digits_more c.args.v c.if-v-lt10.false in
     omega (arith, e.is_length, more, c.requires, puts_length (text (c.args.v / 10)) c.args.out.now _ c.put_number-k.result e (omega (arith, more, c.requires)))
-
-pub overflow_add-result : goal.overflow_add-result
-overflow_add-result t c =
-    omega (arith, c.put_number-k.ensures.is_length, digits_more c.args.v c.if-v-lt10.false, text_length (c.args.v / 10))
 
 pub returns : goal.returns
 returns t c = number_more c.args.v c.args.out.now _ c.put_number-k.result c.if-v-lt10.false c.requires c.put_number-k.ensures

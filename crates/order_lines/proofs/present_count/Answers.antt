@@ -1,46 +1,46 @@
 -- The present places so far are counted. Assumes nothing.
+use mathlib.Core.Path.{◌≡◌, refl, ap, ◌∙◌}
+use mathlib.Core.Bool.{Bool, true, false, cond, not}
 use native.Mathlib.Omega.{arith}
-use Prim.Native.Nat.{◌+◌, ◌<◌}
-use mathlib.Core.Path.{◌≡◌, refl, sym, ap, ◌∙◌}
-use lib.ListN.{length, get_or, take}
-use Rattle.order_lines.proofs.OrderLaws.{absent_bits_is, absent_bits_not, count_absent_next, count_present_next}
-use mir.Syntax.{w16}
-use mir.Val.{SFits}
+use Prim.Native.Nat.{◌≤◌}
+use borrow.Author.Rules.{rules}
 use lib.IntN.{pos}
+use lib.ListN.{length, get_or, take}
 use lib.Seq.{take-length}
-use Rattle.sheet.specs.Sheet.{present_count}
+use mir.Syntax.{w16}
+use mir.Val.{SFits, bool_byte}
+use mir.Facts.{to_z-of_z}
+use Rattle.sheet.specs.Sheet.{is_absent, present_count}
+use Rattle.order_lines.proofs.OrderLaws.{count_next}
 use Rattle.order_lines.proofs.present_count.Goals as goal
-use Rattle.order_lines.proofs.present_count.Goals.{then-table-p, else-table-p}
 
-pub loop-p-init : goal.loop-p-init
+-- a place that is present counts 1, an absent one 0
+counts : (absent : Bool) → bool_byte (not absent) ≡ cond absent 0 1
+counts true = refl
+counts false = refl
+
+at_most : (absent : Bool) → cond absent 0 1 ≤ 1
+at_most true = omega arith
+at_most false = omega arith
+
+pub loop-v-init : goal.loop-v-init
 unfolding present_count
-loop-p-init c = (omega arith, refl, omega arith)
+loop-v-init c = record { counted = refl; low = omega arith }
 
-pub loop-p-preserved : goal.loop-p-preserved
-loop-p-preserved c = let loop' = c.loop-p in
-    let args' = c.args in
-    let if12' = c.t7-1 in
-    let if1' = c.if-table-p in
-    let l = loop' in
-    let t = args'.table.now in
-    let g : l.p < length t = omega arith in
-    let f : SFits w16 (get_or t l.p (pos 0)) = record { sfits = if12'.given } in
-    elim if1'.branch [
-      | then-table-p w ↦ (
-        omega arith,
-        w.count-is ∙ ap (λ x. x + 1) l.invariant.1 ∙ sym (count_present_next t l.p g (absent_bits_not (get_or t l.p (pos 0))
-            w.if-table-p.true)),
-        omega (arith, w.count-is, l.invariant.2),
-      )
-      | else-table-p w ↦ (
-        omega arith,
-        w.count-is ∙ l.invariant.1 ∙ sym (count_absent_next t l.p g (absent_bits_is (get_or t l.p (pos 0)) f w.if-table-p.false)),
-        omega (arith, w.count-is, l.invariant.2),
-      )
-    ]
+pub loop-v-preserved : goal.loop-v-preserved
+loop-v-preserved c =
+    let t = c.args.table.now in
+    let k = c.loop-v.v-index in
+    let f : SFits w16 (get_or t k (pos 0)) = search rules in
+    let one : c.from-count.result ≡ cond (is_absent (get_or t k (pos 0))) 0 1 =
+    c.from-count.ensures ∙ ap bool_byte (simp (to_z-of_z f) at c.present.ensures) ∙ counts (is_absent (get_or t k (pos 0))) in
+    record {
+      counted = omega (arith, one, count_next t k (omega arith), c.loop-v.invariant.counted);
+      low = omega (arith, one, at_most (is_absent (get_or t k (pos 0))), c.loop-v.invariant.low);
+    }
 
 pub returns : goal.returns
-returns c = let l = c.loop-p in
+returns c =
     let t = c.args.table.now in
-    let e : l.p ≡ length t = omega arith in
-    l.invariant.1 ∙ ap present_count (ap (λ i. take i t) e ∙ take-length t)
+    let e : c.loop-v.v-index ≡ length t = omega arith in
+    c.loop-v.invariant.counted ∙ ap present_count (ap (λ i. take i t) e ∙ take-length t)

@@ -1,12 +1,7 @@
 -- The present places so far are counted. Assumes nothing.
-use Prim.Native.Nat.{◌-◌, ◌≤◌}
-use mathlib.Core.Path.{◌≡◌}
-use lib.ListN.{length, take}
+use Rattle.std.proofs.Common.{◌≡◌, ◌≤◌, take}
 use Rattle.sheet.specs.Sheet.{present_count}
 use Rattle.order_lines.proofs.present_count.Given as goal
 
-abbrev pub invariant-loop-p : goal.invariant-loop-p
-invariant-loop-p l = (l.p ≤ length l.table) × (l.count ≡ present_count (take l.p l.table)) × (l.count ≤ l.p)
-
-abbrev pub decreases-loop-p : goal.decreases-loop-p
-decreases-loop-p l = length l.table - l.p
+abbrev pub invariant-loop-v : goal.invariant-loop-v
+invariant-loop-v l = record { counted : l.count ≡ present_count (take l.v-index l.table); low : l.count ≤ l.v-index }

@@ -12,12 +12,13 @@ use Rattle.outcome.proofs.delivered.Goals.{After-completed-answer}
 sum_fits : (c : After-completed-answer) → SFits w32 c.completed-answer.result.sum
 sum_fits c = search rules
 
-wide : (c : After-completed-answer) → Long c.completed-answer.result.additions × Long c.completed-answer.result.stars × Long c.completed-answer.result.heads
+wide : (c : After-completed-answer)
+    → Long c.completed-answer.result.additions × Long c.completed-answer.result.stars × Long c.completed-answer.result.heads
 wide c = search rules
 
 pub returns : goal.returns
 returns c =
-    let b = c in
-    let d = b in
-    let p = d.requires in
-    rw (to_z-of_z (sum_fits (goal.at.returns d).After-completed-answer)) (delivery p.0.small p.3 (wide (goal.at.returns d).After-completed-answer).0 (wide (goal.at.returns d).After-completed-answer).1 (wide (goal.at.returns d).After-completed-answer).2 d.completed-answer.ensures b.hand_out.ensures)
+    let p = (goal.at.returns c).After-completed-answer in
+    let w = wide p in
+    rw (to_z-of_z (sum_fits p))
+    (delivery c.args.table.now.square.small c.requires.2 w.0 w.1 w.2 c.completed-answer.ensures c.hand_out.ensures)

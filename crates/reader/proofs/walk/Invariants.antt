@@ -1,20 +1,13 @@
 -- The walk over sections and lines, each handed the rest of the sheet. Assumes nothing.
-use Prim.Native.Nat.{◌+◌, ◌-◌}
-use lib.ListN.{length}
-use mir.Syntax.{w64}
-use mir.Val.{Fits}
-use Rattle.lines.specs.Parts.{store}
+use Rattle.std.proofs.Common.{◌+◌, length, Fits, w64}
 use Rattle.reader.proofs.WalkLaws.{BeforeHeading, BeforeLine, sections_left}
 use Rattle.reader.proofs.walk.Given as goal
 
 abbrev pub invariant-loop-k : goal.invariant-loop-k
-invariant-loop-k l = BeforeLine l.sheet (store l.table l.rows l.cols l.next) l.section l.n l.line l.rest l.count l.k × Fits w64 (length l.sheet + 1)
-
-abbrev pub decreases-loop-k : goal.decreases-loop-k
-decreases-loop-k l = l.count - l.k
+invariant-loop-k l = BeforeLine l.sheet l.kept l.section l.line l.rest l.heading.value l.k × Fits w64 (length l.sheet + 1)
 
 abbrev pub invariant-sheet : goal.invariant-sheet
-invariant-sheet l = BeforeHeading l.sheet (store l.table l.rows l.cols l.next) l.section l.n l.line l.rest × Fits w64 (length l.sheet + 1)
+invariant-sheet l = BeforeHeading l.sheet l.kept l.section l.line l.rest × Fits w64 (length l.sheet + 1)
 
 abbrev pub decreases-sheet : goal.decreases-sheet
 decreases-sheet l = sections_left l.section

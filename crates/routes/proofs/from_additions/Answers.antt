@@ -1,48 +1,27 @@
 -- From additions. Assumes nothing.
+use mathlib.Core.Path.{refl, sym, ◌∙◌}
 use native.Mathlib.Omega.{arith}
 use borrow.Author.Tests.{not-true, not-false}
-use Rattle.routes.proofs.Additions.{startable, reduced_none, reduced_moved, canon_given, reduced_canon}
+use Rattle.routes.proofs.Additions.{Same, same_told, reduced_moved, canon_given, reduced_canon}
 use Rattle.routes.proofs.from_additions.Goals as goal
+use Rattle.routes.proofs.from_additions.Goals.{After-held}
 
-pub held-start-requires : goal.held-start-requires
-held-start-requires c = let g = c.requires in omega (arith, g.long, g.square.small)
+-- what was held is what was handed in
+kept : (c : After-held) → Same c.args.table.now.n c.held.result c.args.given.now
+kept c = record { each = λ i hi. c.held.ensures i (omega (arith, c.requires.long)) }
 
-pub grow-grown-requires : goal.grow-grown-requires
-grow-grown-requires c = startable c.requires _ c.held-start.ensures
-
-pub returns-then-not-grown : goal.returns-then-not-grown
-returns-then-not-grown c =
-    let b = c in
-    reduced_none b.requires b.held-start.result b.held-start.ensures (b.grow-grown.ensures.none (not-true _ c.if-not-grown.true))
-
-pub same-requires : goal.same-requires
-same-requires c = c.requires.square.small
-
-pub returns-then-not-same : goal.returns-then-not-same
-returns-then-not-same c =
-    let d = c in
-    let b = d in
-    reduced_moved b.requires b.held-start.result b.held-start.ensures (b.grow-grown.ensures.found (not-false _ d.if-not-grown.false))
-    (c.same.ensures.fails (not-true _ c.if-not-same.true-raw))
+pub returns-then-ne : goal.returns-then-ne
+returns-then-ne c =
+    reduced_moved (kept (goal.at.returns-then-ne c).After-held) (rw c.in_ok-grown.ensures.ok_part at c.grow.ensures).least
+    ((same_told _ _ _ (omega arith) c.requires.long refl).fails (not-true _ (sym c.ne.ensures ∙ c.if-ne.true)))
 
 pub lower-least-requires : goal.lower-least-requires
 lower-least-requires c =
-    let d = c in
-    let b = d in
-    canon_given b.requires b.held-start.result b.held-start.ensures (b.grow-grown.ensures.found (not-false _ d.if-not-grown.false))
-
-pub same-unchanged-requires : goal.same-unchanged-requires
-same-unchanged-requires c =
-    let d = c in
-    d.requires.square.small
+    canon_given (kept (goal.at.lower-least-requires c).After-held) (rw c.in_ok-grown.ensures.ok_part at c.grow.ensures).least
 
 pub returns : goal.returns
 returns c =
-    let e = c in
-    let d = e in
-    let b = d in
-    let h = b.held-start in
-    let g = b.grow-grown.ensures in
-    let found = not-false _ d.if-not-grown.false in
-    reduced_canon b.requires h.result h.ensures (g.found found) _ _ _
-    (e.same.ensures.holds (not-false _ e.if-not-same.false-raw)) (g.marks found) c.lower-least.ensures c.same-unchanged.ensures
+    reduced_canon (kept (goal.at.returns c).After-held) (rw c.in_ok-grown.ensures.ok_part at c.grow.ensures).least _
+    ((same_told _ _ _ (omega arith) c.requires.long refl).holds (not-false _ (sym c.ne.ensures ∙ c.if-ne.false)))
+    (rw c.in_ok-grown.ensures.ok_part at c.grow.ensures).marks c.lower-least.ensures
+    (same_told _ _ _ (omega arith) c.requires.long c.eq.ensures)

@@ -1,33 +1,25 @@
 -- From the columns of a transversal. Assumes nothing.
-use Rattle.routes.proofs.Columns.{from_zeros, transversal_of, raised_ended, raised_failed, endless, absent_place}
+use Rattle.std.proofs.Common.{rules}
+use Rattle.routes.proofs.Columns.{from_zeros, transversal_of, raised_ended, raised_endless, raised_absent}
 use Rattle.routes.proofs.from_columns.Goals as goal
+use Rattle.routes.proofs.from_columns.Goals.{else-all_present-via-else-all_present}
+use Rattle.routes.proofs.from_columns.Goals.{else-all_present-via-then-all_present+in-None-1}
 
-pub all_present-requires : goal.all_present-requires
-all_present-requires c = (c.requires.square, c.requires.inside)
-
-pub climb-climbed-requires : goal.climb-climbed-requires
-climb-climbed-requires c =
-    let g = c.requires in
-    (from_zeros g, transversal_of g (c.all_present.ensures.holds c.if-all_present.true))
-
-pub returns-then-climbed : goal.returns-then-climbed
-returns-then-climbed c = raised_ended c.requires c.climb-climbed.ensures c.if-climbed.true
-
-pub grow-grown-requires : goal.grow-grown-requires
-grow-grown-requires c = from_zeros c.requires
-
-pub returns-then-all_present : goal.returns-then-all_present
-returns-then-all_present c =
-    let g = c.requires in
-    let e = c in
-    raised_failed g _ c.grow-grown.ensures
-    (endless g c.climb-climbed.ensures c.if-climbed.false (transversal_of g (e.all_present.ensures.holds e.if-all_present.true)))
-
-pub grow-grown-requires-2 : goal.grow-grown-requires-2
-grow-grown-requires-2 c = from_zeros c.requires
+pub climb-requires : goal.climb-requires
+climb-requires c =
+    (from_zeros c.requires c.args.table.now.square, transversal_of c.requires (c.all_present.ensures.holds c.if-all_present.true))
 
 pub returns : goal.returns
-returns c =
-    let g = c.requires in
-    raised_failed g _ c.grow-grown-2.ensures
-    (λ l τ s m. absent_place g (c.all_present.ensures.fails c.if-all_present.false))
+returns c = raised_ended (c.climb.ensures.least _ c.in-Some.is)
+
+pub grow-requires : goal.grow-requires
+grow-requires c = from_zeros c.requires c.args.table.now.square
+
+pub returns-2 : goal.returns-2
+returns-2 c =
+    let w = (rw c.in_ok-ok_or.ensures.ok_part at c.grow.ensures).least in
+    elim c.else-all_present.branch [
+      | else-all_present-via-else-all_present v ↦ raised_absent w (c.all_present.ensures.fails v.if-all_present.false)
+      | else-all_present-via-then-all_present+in-None-1 v ↦
+          raised_endless w v.climb.ensures (search rules) (transversal_of c.requires (c.all_present.ensures.holds v.if-all_present.true))
+    ]

@@ -8,9 +8,9 @@ use Rattle.streams.proofs.read_input.Goals as goal
 pub loop-at-preserved : goal.loop-at-preserved
 loop-at-preserved g c =
     let turn = c.loop-at in
-    let more = front_more turn.at c.in-Ok.got _ c.read.new.buf _ (length-take-le turn.at turn.buffer turn.invariant.inside) c.in-Ok.ensures.bound.0 in
+    let read = c.in_ok-got in
+    let more = front_more turn.at read.got _ c.read.new.buf _ (length-take-le turn.at turn.buffer turn.invariant.inside) read.ensures.bound.0 in
     record {
       inside = search rules;
-      same = search rules;
-      taken = subst (Consumes _ _) (sym more) (Consumes-trans _ _ _ _ _ turn.invariant.taken c.in-Ok.ensures.bytes.0);
+      taken = subst (Consumes _ _) (sym more) (Consumes-trans _ _ _ _ _ turn.invariant.taken read.ensures.bytes.0);
     }

@@ -1,15 +1,15 @@
-use mathlib.Core.Path.{refl, ap}
-use mathlib.Core.Bool.{true, false}
-use Rattle.canon.specs.Answers.{judged}
-use Rattle.telling.specs.Telling.{gave, kept_back}
-use Rattle.telling.proofs.Verdicts.{says_yes, says_no}
+-- The yes-or-no, as 1 or 0. Assumes nothing.
+use Rattle.std.proofs.Common.{◌≡◌, Bool, true, false, refl}
+use borrow.Author.Rules.{rules}
+use mir.Val.{bool_byte}
+use Rattle.telling.specs.Telling.{bit}
+use Rattle.telling.proofs.Bits.{told_bit}
 use Rattle.telling.proofs.tell_verdict.Goals as goal
 
-pub returns-in-Yes : goal.returns-in-Yes
-returns-in-Yes c = gave true (says_yes c.args.verdict c.in-Yes.in-Yes-own.keys1) refl refl
+-- the byte of a bool
+as_bit : (b : Bool) → bool_byte b ≡ bit b
+as_bit true = refl
+as_bit false = refl
 
-pub returns-in-No : goal.returns-in-No
-returns-in-No c = gave false (says_no c.args.verdict c.in-No.in-No-own.keys2) refl refl
-
-pub returns-in-Refused : goal.returns-in-Refused
-returns-in-Refused c = kept_back _ _ (ap judged c.in-Refused.is) c.number.ensures refl
+pub returns : goal.returns
+returns c = told_bit _ c.args.verdict c.map.result c.map.ensures.cases (λ b x e. search (rules, as_bit b)) c.tell.ensures

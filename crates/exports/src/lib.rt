@@ -97,10 +97,8 @@ pub extern "C" fn canon_column_heads(
         heads.new rows.new counts.new)
         says itself result no_result no_result }
 {
-    tell(
-        canon::column_heads(n, table, given, heads, rows, counts),
-        &mut (),
-    )
+    let answer = canon::column_heads(n, table, given, heads, rows, counts);
+    tell(answer, &mut ())
 }
 
 // The reader. Rules out rows' labels in the columns' place, N in the line's, and what tell_read rules out.

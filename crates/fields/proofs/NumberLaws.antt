@@ -83,7 +83,7 @@ pub stops_byte : (s : List ℕ) (i : ℕ) → i < length s → (Digit (get_or s 
 stops_byte s i h n l d = n (rw (drop-cons s i 0 h) at d)
 
 -- a number with another byte, or nothing, behind it stands at the front
-front_of : (s : List ℕ) (limit v : ℕ) (x : List ℕ) → v ≤ limit → NoDigit x → s ≡ text v ++ x → FrontIs s limit (record { value = v; taken = length (text v) })
+pub front_of : (s : List ℕ) (limit v : ℕ) (x : List ℕ) → v ≤ limit → NoDigit x → s ≡ text v ++ x → FrontIs s limit (record { value = v; taken = length (text v) })
 front_of s limit v x l n e =
     let d : drop (length (text v)) s ≡ x = ap (λ y. drop (length (text v)) y) e ∙ drop_at (text v) x (length (text v)) refl in
     record {

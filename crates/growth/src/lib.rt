@@ -44,17 +44,19 @@ pub fn grow(table: &Table<'_>, start: [u32; ROWS]) -> Option<Grown>
     ensures { GrownFrom table.now.entries.now table.now.n start result }
 {
     let heads = first_heads(table, &start)?;
-    let raised = Raised {
-        additions: start,
-        heads,
+    let mut sapling = Sapling {
+        raised: Raised {
+            additions: start,
+            heads,
+        },
+        marks: Marked {
+            rows: [ROWS; ROWS],
+            columns: [ROWS; ROWS],
+        },
     };
-    let marks = Marked {
-        rows: [ROWS; ROWS],
-        columns: [ROWS; ROWS],
-    };
-    let mut sapling = Sapling { raised, marks };
     sapling.insert_all(table)?;
-    let additions = sapling.raised.additions;
-    let marks = sapling.marks;
-    Some(Grown { additions, marks })
+    Some(Grown {
+        additions: sapling.raised.additions,
+        marks: sapling.marks,
+    })
 }

@@ -103,7 +103,7 @@ labels_next (suc k) b =
     (labels_next k (drop width b) ∙ ap (λ x. labels_of k (drop width b) ++ (label_of x ∷ [])) (slot_tail b k))
 
 -- fewer labels have shorter lines
-lines_mono : (k n : ℕ) (b : List ℕ) → k ≤ n → length (ended_lines (labels_of k b)) ≤ length (ended_lines (labels_of n b))
+pub lines_mono : (k n : ℕ) (b : List ℕ) → k ≤ n → length (ended_lines (labels_of k b)) ≤ length (ended_lines (labels_of n b))
 unfolding labels_of ended_lines
 lines_mono zero n b h = omega arith
 lines_mono (suc k) zero b h = absurd (omega arith)

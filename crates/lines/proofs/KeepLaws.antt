@@ -44,14 +44,14 @@ module _ (b : List ℕ) (ls : List (List ℕ)) (l : List ℕ) (h : Holding b ls)
       ∙ drop-append-add (slots ls) (replicate n 0) (length l)
       ∙ drop-replicate (length l) n 0 ∙ ap (λ i. replicate i 0) m ∙ sym (replicate-append-replicate (width - length l) r 0)
 
-  holding_more : Holding (paste b (width * length ls) l (length l)) (ls ++ (l ∷ []))
+  pub holding_more : Holding (paste b (width * length ls) l (length l)) (ls ++ (l ∷ []))
   unfolding slots
   holding_more =
       paste_all b (width * length ls) l (length l) refl
       ∙ ap (λ x. x ++ (l ++ drop (width * length ls + length l) b)) front_held
       ∙ ap (λ x. slots ls ++ (l ++ x)) rest_zero ∙ simp (slots_append, append_assoc, append-nil)
 
-holding_length : (b : List ℕ) (ls : List (List ℕ)) → Holding b ls → Short ls → length ls ≤ row_limit → length b ≡ width * row_limit
+pub holding_length : (b : List ℕ) (ls : List (List ℕ)) → Holding b ls → Short ls → length ls ≤ row_limit → length b ≡ width * row_limit
 holding_length b ls h s few =
     ap length h
     ∙ length-append (slots ls) (replicate (width * row_limit - width * length ls) 0)
@@ -79,12 +79,12 @@ module _ (b : List ℕ) (ls : List (List ℕ)) (l : List ℕ) (h : Holding b (ls
         ap (λ x. slot x i) h
         ∙ slot_at (ls ++ (l ∷ [])) _ i last_short (omega (arith, length_more ls l)) ∙ ap filled (lib.ListN.get_or-append ls (l ∷ []) [] i g)
 
-  repeated_old : Repeated b (length ls) → New ls l → ⊥
+  pub repeated_old : Repeated b (length ls) → New ls l → ⊥
   repeated_old r n =
       n r.earlier r.before
       (filled_once (get_or ls r.earlier []) l (p.form r.earlier r.before) f (sym (slot_old r.earlier r.before) ∙ r.alike ∙ slot_last))
 
-  unrepeated_new : (Repeated b (length ls) → ⊥) → New ls l
+  pub unrepeated_new : (Repeated b (length ls) → ⊥) → New ls l
   unrepeated_new n k g e =
       n
       (record {
@@ -113,7 +113,7 @@ module _ (b : List ℕ) (ls : List (List ℕ)) (l : List ℕ) (h : Holding b ls)
       (compared again)
 
 -- an order put into the table
-table_more : (e : List ℤ) (p : ℕ) (v : ℤ) (n : ℕ) → length e ≤ p → p < n
+pub table_more : (e : List ℤ) (p : ℕ) (v : ℤ) (n : ℕ) → length e ≤ p → p < n
     → set (e ++ replicate (n - length e) absent) p v
     ≡ (e ++ (replicate (p - length e) absent ++ (v ∷ []))) ++ replicate (n - length (e ++ (replicate (p - length e) absent ++ (v ∷ [])))) absent
 table_more e p v n h g =
@@ -137,13 +137,13 @@ table_more e p v n h g =
     ∙ sym (append_snoc (e ++ replicate d absent) v (replicate (n - length (e ++ (replicate d absent ++ (v ∷ [])))) absent))
     ∙ ap (λ x. x ++ replicate (n - length (e ++ (replicate d absent ++ (v ∷ [])))) absent) (append_assoc e (replicate d absent) (v ∷ []))
 
-more_length : (e : List ℤ) (p : ℕ) (v : ℤ) → length e ≤ p → length (e ++ (replicate (p - length e) absent ++ (v ∷ []))) ≡ p + 1
+pub more_length : (e : List ℤ) (p : ℕ) (v : ℤ) → length e ≤ p → length (e ++ (replicate (p - length e) absent ++ (v ∷ []))) ≡ p + 1
 more_length e p v h =
     length-append e (replicate (p - length e) absent ++ (v ∷ []))
     ∙ omega (arith, length-append (replicate (p - length e) absent) (v ∷ []), length-replicate {A = ℤ} (p - length e) absent)
 
 -- the place of an order is inside the table
-place_small : (n i j : ℕ) → n ≤ row_limit → i < n → j < n → i * n + j < row_limit * row_limit
+pub place_small : (n i j : ℕ) → n ≤ row_limit → i < n → j < n → i * n + j < row_limit * row_limit
 place_small n i j h p q = omega (arith, cell n i j p q, mul-le-mul {n₁ = n} {m₁ = n} {n₂ = row_limit} {m₂ = row_limit} h h)
 
 -- an order line: only one can stand in the section of orders, and it is kept at a place that no line so far has reached

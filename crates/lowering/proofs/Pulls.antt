@@ -20,7 +20,7 @@ module _ (a : ℕ → ℕ → ℤ) (column_of floors : ℕ → ℕ) (k l i : ℕ
   pub pulled_absent : a k (column_of i) ≡ absent → PulledAt a column_of floors k l i (floors i)
   pulled_absent e = record { above = omega arith; enough = λ p. absurd (p e); least = λ m h f. h }
 
-  module _ {r : ℕ} (p : Present (a k (column_of i))) (w : Pull (a k (column_of i)) l (a i (column_of i)) r) where
+  module _ {r : ℕ} (w : Pull (a k (column_of i)) l (a i (column_of i)) r) where
     -- the floor is high enough
     pub pulled_kept : r ≤ floors i → PulledAt a column_of floors k l i (floors i)
     pulled_kept h =
@@ -31,5 +31,5 @@ module _ (a : ℕ → ℕ → ℤ) (column_of floors : ℕ → ℕ) (k l i : ℕ
         }
 
     -- the floor rises
-    pub pulled_raised : floors i ≤ r → PulledAt a column_of floors k l i r
-    pulled_raised h = record { above = h; enough = λ q. w.enough; least = λ m g f. w.least m (f p) }
+    pub pulled_raised : Present (a k (column_of i)) → floors i ≤ r → PulledAt a column_of floors k l i r
+    pulled_raised p h = record { above = h; enough = λ q. w.enough; least = λ m g f. w.least m (f p) }

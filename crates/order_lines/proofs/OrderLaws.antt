@@ -84,7 +84,7 @@ module _ (t : List ℤ) (p : ℕ) (h : p < length t) where
       ∙ ap (λ x. order_bytes n 0 (take p t) ++ x) (bytes_one n p (get_or t p (pos 0)))
 
 -- the lines of a front are no longer than those of the whole
-front_lines : (n k : ℕ) (t : List ℤ) → length (order_bytes n 0 (take k t)) ≤ length (order_bytes n 0 t)
+pub front_lines : (n k : ℕ) (t : List ℤ) → length (order_bytes n 0 (take k t)) ≤ length (order_bytes n 0 t)
 front_lines n k t =
     let e : order_bytes n 0 t ≡ order_bytes n 0 (take k t) ++ order_bytes n (0 + length (take k t)) (drop k t) =
     ap (λ x. order_bytes n 0 x) (sym (take-append-drop k t)) ∙ bytes_append n 0 (take k t) (drop k t) in

@@ -39,7 +39,7 @@ pass s st st' line taken rest l r e a =
     }
 
 -- the first line left cannot stand, or is missing or unended
-halt : (s : List ℕ) (st : State) (line : ℕ) (rest : List ℕ) → Reached s st line rest → (Final st → ⊥)
+pub halt : (s : List ℕ) (st : State) (line : ℕ) (rest : List ℕ) → Reached s st line rest → (Final st → ⊥)
     → ((l x : List ℕ) (st' : State) → Ended rest l x → After st l st' → ⊥) → WrongLine s line
 halt s st line rest r due none = go (cut rest)
   where

@@ -22,7 +22,9 @@ pub fn from_additions(table: &Table<'_>, given: &[u32]) -> Result<Reduced, Refus
     requires { GivenAdditions table.now.entries.now table.now.n given.now }
     ensures { ReducedFrom table.now.entries.now table.now.n given.now result }
 {
-    let grown = grow(table, held(given)).ok_or(Refusal::NoTransversal)?;
+    let Some(grown) = grow(table, held(given)) else {
+        return Err(Refusal::NoTransversal);
+    };
     if &grown.additions[..table.n] != given {
         return Err(Refusal::NoCanon);
     }

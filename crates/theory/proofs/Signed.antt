@@ -10,8 +10,8 @@ use native.Mathlib.Nat.{mul-le-mul_left}
 use native.Mathlib.Decide.{ℕ_discrete}
 use native.Mathlib.Omega.{arith}
 use lib.Dec.{T, ltb, leb, nleb→lt, ltb→lt, nltb→le, leb→le, le→leb, lt→ltb}
-use lib.IntN.{ℤ, pos, negsuc, neg_ℤ, sub_ℕ, ◌+ℤ◌, ◌-ℤ◌}
-use lib.Signed.{mag, ◌≤ℤ◌, ◌<ℤ◌, le_z, lt_z, le_z_yes, lt_z_yes, lt_z_no}
+use lib.IntN.{ℤ, pos, negsuc, neg_ℤ, sub_ℕ, ◌+ℤ◌, ◌-ℤ◌, nat_abs}
+use lib.Signed.{mag, ◌≤ℤ◌, ◌<ℤ◌, le_z, lt_z, non_neg, le_z_yes, lt_z_yes, lt_z_no}
 use mir.Syntax.{Width}
 use mir.Val.{SFits, hbits}
 use Rattle.theory.specs.Totals.{total, totalℕ}
@@ -160,6 +160,20 @@ pub total_ud : (n : ℕ) (f : ℕ → ℤ) → up (total n f) + totalℕ n (λ i
 unfolding total totalℕ
 total_ud zero f = refl
 total_ud (suc n) f = omega (arith, total_ud n f, plus (total n f) (f n))
+
+-- ---- casts
+-- a signed number that is not negative, cast to an unsigned type
+pub ud_non_neg : (z : ℤ) → dn z ≤ up z → T (non_neg z)
+ud_non_neg (pos n) h = tt
+ud_non_neg (negsuc n) h = absurd (omega arith)
+
+pub nat_abs_is : (z : ℤ) → nat_abs z ≡ up z + dn z
+nat_abs_is (pos n) = omega arith
+nat_abs_is (negsuc n) = omega arith
+
+pub dn_none : (z : ℤ) → dn z ≤ up z → dn z ≡ 0
+dn_none (pos n) h = refl
+dn_none (negsuc n) h = absurd (omega arith)
 
 -- a bound on `mag`, as a contract may have it
 pub mag_up : (z : ℤ) → up z ≤ mag z

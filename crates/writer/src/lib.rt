@@ -81,13 +81,14 @@ pub fn write_sheet<'a>(
     if !entries_stand(table) {
         return Err(Refusal::Entry);
     }
-    let table = Table { entries: table, n };
-    let rows = LabelBuffer { bytes: rows, n };
-    let cols = LabelBuffer { bytes: cols, n };
-    if !labels_stand(&rows) || !labels_stand(&cols) {
+    let sheet = Labelled {
+        table: Table { entries: table, n },
+        rows: LabelBuffer { bytes: rows, n },
+        cols: LabelBuffer { bytes: cols, n },
+    };
+    if !labels_stand(&sheet.rows) || !labels_stand(&sheet.cols) {
         return Err(Refusal::Label);
     }
-    let sheet = Labelled { table, rows, cols };
     if out.len() < sheet_length(&sheet) {
         return Err(Refusal::Room);
     }

@@ -7,7 +7,7 @@ use Rattle.fields.proofs.front_number.Goals.{else-taken-eq1-via-then-taken-eq1+e
 
 pub returns-then-value-eq0 : goal.returns-then-value-eq0
 returns-then-value-eq0 c =
-    leading_zero _ _ _ _ c.loop-b.invariant.0 (sym c.loop-b.invariant.1 ∙ c.if-taken-eq1.true) c.if-value-eq0.true (omega arith)
+    leading_zero _ _ _ _ c.loop-b.invariant.0 (omega (arith, c.loop-b.invariant.1, c.if-taken-eq1.true)) c.if-value-eq0.true (omega arith)
     c.if-not-is_ascii_digit.ensures.cases
 
 -- the number goes on, where it does not stand behind a leading zero
@@ -18,7 +18,7 @@ more c =
     (λ o z.
     elim c.else-taken-eq1.branch [
       | else-taken-eq1-via-then-taken-eq1+else-value-eq0 w ↦ w.if-value-eq0.false z
-      | else-taken-eq1-via-else-taken-eq1 w ↦ w.if-taken-eq1.false (c.loop-b.invariant.1 ∙ o)
+      | else-taken-eq1-via-else-taken-eq1 w ↦ w.if-taken-eq1.false (omega (arith, c.loop-b.invariant.1, o))
     ]))
 
 pub returns-then-limit-value : goal.returns-then-limit-value

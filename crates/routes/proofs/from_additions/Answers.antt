@@ -12,16 +12,16 @@ kept c = record { each = λ i hi. c.held.ensures i (omega (arith, c.requires.lon
 
 pub returns-then-ne : goal.returns-then-ne
 returns-then-ne c =
-    reduced_moved (kept (goal.at.returns-then-ne c).After-held) (rw c.in_ok-grown.ensures.ok_part at c.grow.ensures).least
+    reduced_moved (kept (goal.at.returns-then-ne c).After-held) c.in-Some.ensures.least
     ((same_told _ _ _ (omega arith) c.requires.long refl).fails (not-true _ (sym c.ne.ensures ∙ c.if-ne.true)))
 
 pub lower-least-requires : goal.lower-least-requires
 lower-least-requires c =
-    canon_given (kept (goal.at.lower-least-requires c).After-held) (rw c.in_ok-grown.ensures.ok_part at c.grow.ensures).least
+    canon_given (kept (goal.at.lower-least-requires c).After-held) c.in-Some.ensures.least
 
 pub returns : goal.returns
 returns c =
-    reduced_canon (kept (goal.at.returns c).After-held) (rw c.in_ok-grown.ensures.ok_part at c.grow.ensures).least _
+    reduced_canon (kept (goal.at.returns c).After-held) c.in-Some.ensures.least _
     ((same_told _ _ _ (omega arith) c.requires.long refl).holds (not-false _ (sym c.ne.ensures ∙ c.if-ne.false)))
-    (rw c.in_ok-grown.ensures.ok_part at c.grow.ensures).marks c.lower-least.ensures
+    c.in-Some.ensures.marks c.lower-least.ensures
     (same_told _ _ _ (omega arith) c.requires.long c.eq.ensures)

@@ -24,14 +24,15 @@ loop-i-preserved c =
     let same = ap (λ x. nums x c.args.k) inv.additions in
     elim c.if-other.branch [
       | then-other+then-self-i w ↦ rw w.self-is record {
-        swept = swept_set _ _ _ s inside (pulled_raised _ _ _ _ _ _ (rw p.ensures at (present_bits p.result w.if-other.true))
+        swept = swept_set _ _ _ s inside (pulled_raised _ _ _ _ _ _
             (pull_told f (sfits_of w.place.type_inv) p.ensures w.place.ensures same w.pull-least.ensures)
+            (rw p.ensures at (present_bits p.result w.if-other.true))
             (omega (arith, w.if-self-i.true, s.rest l.i (omega arith))));
         additions = inv.additions;
         settled = inv.settled;
       }
       | then-other+else-self-i w ↦ rw w.self-is record {
-        swept = swept_keep _ _ s (pulled_kept _ _ _ _ _ _ (rw p.ensures at (present_bits p.result w.if-other.true))
+        swept = swept_keep _ _ s (pulled_kept _ _ _ _ _ _
             (pull_told f (sfits_of w.place.type_inv) p.ensures w.place.ensures same w.pull-least.ensures)
             (omega (arith, w.if-self-i.false, s.rest l.i (omega arith))));
         additions = inv.additions;

@@ -1,10 +1,11 @@
 -- The heads, the sum and the numbers of the stars. Assumes nothing.
 use mathlib.Core.Path.{◌≡◌, refl, sym, ◌∙◌, ap₂}
 use mathlib.Core.List.{List}
-use Prim.Native.Nat.{ℕ, ◌+◌, ◌*◌, ◌<◌}
+use Prim.Native.Nat.{ℕ, ◌+◌, ◌*◌, ◌≤◌, ◌<◌}
 use native.Mathlib.Numerals.{add-one}
 use native.Mathlib.Omega.{arith}
-use lib.IntN.{ℤ, pos, ◌+ℤ◌}
+use lib.IntN.{ℤ, pos, negsuc, ◌+ℤ◌}
+use lib.Signed.{mag}
 use mir.Syntax.{w16, w32}
 use mir.Val.{SFits, to_z, of_z}
 use mir.Facts.{to_z-of_z, sfits_widen}
@@ -30,6 +31,11 @@ total_none f = refl
 pub total_more : (k : ℕ) (f : ℕ → ℤ) → total (k + 1) f ≡ total k f +ℤ f k
 unfolding total
 total_more k f = rw add-one refl
+
+-- a number between −b and b, as `mag` has it
+pub mag_order : (b : ℕ) (z : ℤ) → Order b z → mag z ≤ b
+mag_order b (pos n) o = omega (arith, signed, o.high)
+mag_order b (negsuc n) o = omega (arith, signed, o.low)
 
 -- a sum of i numbers of 16 bits
 pub sum_start : Order 0 (pos 0)

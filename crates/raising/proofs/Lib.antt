@@ -1,2 +1,3 @@
+pub mod Heights
 pub mod Steps
 pub mod Ends
